@@ -1,0 +1,58 @@
+-- The answers of the desk's three jobs for any input and any room, and what the lent buffer holds after. Assumes nothing.
+use Prim.Native.Nat.{ℕ}
+use mathlib.Core.List.{List, _++_}
+use lib.ListN.{length, drop}
+use Rattle.meaning.specs.Framing.{walk, attributes}
+use Rattle.meaning.specs.Refusals.{Refusal, none, refusal, first, tooShort, areaOrder}
+use Rattle.meaning.specs.Sheet.{sheetOf, kindIn, flagsIn, areaIn, judged}
+use Rattle.meaning.specs.Breaches.{breaches}
+
+-- what was asked for, or the refusal by its number and second number
+pub data Answer (A : Type 0) : Type 0 where
+  given : A → Answer A
+  refused : (number second : ℕ) → Answer A
+
+-- what was asked for, unless it is refused
+abbrev pub unless : {A : Type 0} → Refusal → A → Answer A
+unless none a = given a
+unless (refusal n s) a = refused n s
+
+-- "Success changes only the octets or entries written, from the buffer's start": s over the start of the buffer d
+unfoldable pub over : (s d : List ℕ) → List ℕ
+over s d = s ++ drop (length s) d
+
+-- the buffer after an answer; "A refusal leaves each buffer unchanged"
+unfoldable pub after : Answer (List ℕ) → (buffer : List ℕ) → List ℕ
+after (given s) d = over s d
+after (refused n s) d = d
+
+-- "Read: attribute area, kind and flags give a sheet"
+unfoldable pub readAnswer : (kind flags : ℕ) (area : List ℕ) (room : ℕ) → Answer (List ℕ)
+readAnswer kind flags area room =
+    unless (areaOrder kind flags area 9 (length (sheetOf kind flags area)) room) (sheetOf kind flags area)
+
+-- the breaches of an area, its attributes taken from the walk
+unfoldable pub listOf : (kind flags : ℕ) (area : List ℕ) → List ℕ
+listOf kind flags area = breaches kind flags (length area) (attributes (walk area))
+
+-- "Check: the same inputs give a list of breaches"
+unfoldable pub checkAnswer : (kind flags : ℕ) (area : List ℕ) (room : ℕ) → Answer (List ℕ)
+checkAnswer kind flags area room =
+    unless (areaOrder kind flags area 10 (length (listOf kind flags area)) room) (listOf kind flags area)
+
+-- area, kind and flags, as writing gives them back
+pub record Written : Type 0 where
+  pub kind : ℕ
+  pub flags : ℕ
+  pub area : List ℕ
+
+-- "Write: a sheet gives back area, kind and flags"; 25 is the last of its refusals
+unfoldable pub writeAnswer : (sheet : List ℕ) (room : ℕ) → Answer Written
+writeAnswer sheet room =
+    unless (first (judged sheet) (tooShort 25 (length (areaIn sheet)) room))
+    (record { kind = kindIn sheet; flags = flagsIn sheet; area = areaIn sheet })
+
+-- the area of a written sheet, or the refusal
+unfoldable pub areaAnswer : Answer Written → Answer (List ℕ)
+areaAnswer (given w) = given (w .area)
+areaAnswer (refused n s) = refused n s

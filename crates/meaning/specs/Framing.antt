@@ -1,0 +1,84 @@
+-- Document 01, "Framing": what stands at a place of an area, and the walk over the area from the left. Assumes nothing.
+use Prim.Native.Nat.{ℕ, zero, suc, _+_, _-_}
+use mathlib.Core.Bool.{Bool, cond, _&&_}
+use mathlib.Core.List.{List, [], _∷_}
+use lib.Dec.{eqb, leb, ltb}
+use lib.ListN.{length, take, drop, getD}
+use Rattle.meaning.specs.Octets.{numberOf}
+
+-- The number that an attribute carries: a plain attribute's is its type, 0 to 255; a 3GPP sub-attribute's stands behind these.
+abbrev pub gpp : ℕ → ℕ
+gpp s = 256 + s
+
+-- a carried number is a plain one
+abbrev pub isPlain : ℕ → Bool
+isPlain n = ltb n 256
+
+-- an attribute of an area: where it stands, the number it carries, its value
+pub record Attribute : Type 0 where
+  pub place : ℕ
+  pub number : ℕ
+  pub value : List ℕ
+
+-- What stands at the front of some octets: an attribute with the number it carries, the octets before its value and all its octets;
+-- a refusal, by its number in the book; or nothing at all.
+pub data Found : Type 0 where
+  attribute : (number head size : ℕ) → Found
+  refused : (number : ℕ) → Found
+  nothing : Found
+
+-- "with 2 <= m <= 248 and m = n - 6"
+unfoldable pub oneSub : (n m : ℕ) → Bool
+oneSub n m = leb 2 m && (leb m 248 && eqb m (n - 6))
+
+-- "Type 26 carries a four-octet vendor id", of length n; r stands after the length octet
+unfoldable pub vendorFound : (n : ℕ) → List ℕ → Found
+vendorFound n r =
+    cond (ltb n 7) (refused 7)
+    (cond (eqb (numberOf (take 4 r)) 10415)
+    (cond (oneSub n (getD r 5 0)) (attribute (gpp (getD r 4 0)) 8 n) (refused 8))
+    (attribute 26 2 n))
+
+-- "An attribute is type, length, value; length counts all its octets", tested 4 to 8 in that order
+unfoldable pub found : List ℕ → Found
+found [] = nothing
+found (t ∷ []) = refused 4
+found (t ∷ n ∷ r) =
+    cond (ltb n 2) (refused 5)
+    (cond (ltb (length r + 2) n) (refused 6) (cond (eqb t 26) (vendorFound n r) (attribute t 2 n)))
+
+-- what stands at a place of an area
+unfoldable pub foundAt : List ℕ → (place : ℕ) → Found
+foundAt area p = found (drop p area)
+
+-- What was read from the left: attributes, and then the end, or the first refusal with its place.
+pub data Walk : Type 0 where
+  end : Walk
+  broken : (number place : ℕ) → Walk
+  next : Attribute → Walk → Walk
+
+-- on from place p, at the front of l; rest passes over so many octets more than one
+abbrev pub onward : (p : ℕ) (l : List ℕ) → (ℕ → Walk) → Found → Walk
+onward p l rest (attribute n h s) = next (record { place = p; number = n; value = take (s - h) (drop h l) }) (rest (s - 1))
+onward p l rest (refused k) = broken k p
+onward p l rest nothing = end
+
+-- the walk over octets that start at place p, the first k of them passed over
+unfoldable pub from : (k p : ℕ) → List ℕ → Walk
+from k p [] = end
+from (suc k) p (x ∷ l) = from k (suc p) l
+from zero p (x ∷ l) = onward p (x ∷ l) (λ k. from k (suc p) l) (found (x ∷ l))
+
+-- the walk over an area from a place on
+unfoldable pub walkAt : List ℕ → (place : ℕ) → Walk
+walkAt area p = from 0 p (drop p area)
+
+-- the walk over a whole area
+unfoldable pub walk : List ℕ → Walk
+walk area = walkAt area 0
+
+-- the attributes that a walk met
+unfoldable pub attributes : Walk → List Attribute
+attributes end = []
+attributes (broken k p) = []
+attributes (next a w) = a ∷ attributes w

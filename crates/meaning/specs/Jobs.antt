@@ -1,0 +1,26 @@
+-- Document 01, "The desk's three jobs": the kinds of message and the flags. Assumes nothing.
+use Prim.Native.Nat.{ℕ, _/_, _%_}
+use mathlib.Core.Bool.{Bool}
+use mathlib.Core.List.{List, [], _∷_}
+use lib.Dec.{eqb}
+use Rattle.meaning.specs.Octets.{isIn, between}
+
+-- "Kinds: 1 Access-Request, 2 Accounting START, 3 STOP, 4 ON, 5 OFF, 6 Interim-Update"
+unfoldable pub isKind : ℕ → Bool
+isKind k = between 1 6 k
+
+-- "Allowed flag numbers are 0, 1, 2, 4, 5 and 6, for every kind"
+unfoldable pub areFlags : ℕ → Bool
+areFlags f = isIn f (0 ∷ 1 ∷ 2 ∷ 4 ∷ 5 ∷ 6 ∷ [])
+
+-- "1 PAP was used"
+abbrev pub pap : ℕ → Bool
+pap f = eqb (f % 2) 1
+
+-- "2 CHAP was used"
+abbrev pub chap : ℕ → Bool
+chap f = eqb (f / 2 % 2) 1
+
+-- "4 Class was received in the Access-Accept"
+abbrev pub class : ℕ → Bool
+class f = eqb (f / 4 % 2) 1

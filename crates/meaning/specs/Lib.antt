@@ -1,0 +1,10 @@
+pub mod Octets
+pub mod Jobs
+pub mod Framing
+pub mod Refusals
+pub mod Shapes
+pub mod Sheet
+pub mod Presence
+pub mod Breaches
+pub mod Answers
+pub mod Seen

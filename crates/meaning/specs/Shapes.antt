@@ -1,0 +1,85 @@
+-- Document 01, "Shapes and allowed values". A shape is what the value of a carried number has to look like. Assumes nothing.
+use Prim.Native.Nat.{ℕ, _+_, _-_, _%_}
+use mathlib.Core.Bool.{Bool, true, cond, _&&_, _||_}
+use mathlib.Core.List.{List, [], _∷_}
+use lib.Dec.{eqb, leb}
+use lib.ListN.{length, take, drop, getD}
+use Rattle.meaning.specs.Octets.{isIn, between, all, same, isDigit, isHex, numberOf, values}
+use Rattle.meaning.specs.Framing.{gpp, isPlain}
+
+pub data Shape : Type 0 where
+  number : Shape
+  address : Shape
+  digits : (least most : ℕ) → Shape
+  hexadecimal : (count : ℕ) → Shape
+  qos : Shape
+  hexDigit : Shape
+  anyOctet : Shape
+  decimalDigit : Shape
+  atLeast : (least : ℕ) → Shape
+  exactly : (count : ℕ) → Shape
+  blocks : Shape
+  free : Shape
+
+-- "Plain. Form 2 .. Form 0 with a length rule .. Any other number has no shape."
+unfoldable pub plainShape : ℕ → Shape
+plainShape t =
+    cond (isIn t (6 ∷ 7 ∷ []) || (between 40 43 t || (between 45 49 t || eqb t 61))) number
+    (cond (isIn t (4 ∷ 8 ∷ 9 ∷ [])) address
+    (cond (eqb t 31) (digits 1 15)
+    (cond (eqb t 44) (hexadecimal 16)
+    (cond (isIn t (1 ∷ 18 ∷ 24 ∷ 25 ∷ 30 ∷ 32 ∷ [])) (atLeast 1)
+    (cond (eqb t 2) blocks
+    (cond (eqb t 3) (exactly 17)
+    (cond (eqb t 60) (atLeast 5) free)))))))
+
+-- "3GPP. 1 IMSI .. Other numbers have no shape."
+unfoldable pub gppShape : ℕ → Shape
+gppShape s =
+    cond (eqb s 1) (digits 1 15)
+    (cond (isIn s (2 ∷ 3 ∷ [])) number
+    (cond (isIn s (4 ∷ 6 ∷ 7 ∷ [])) address
+    (cond (eqb s 5) qos
+    (cond (isIn s (8 ∷ 9 ∷ 18 ∷ [])) (digits 5 6)
+    (cond (eqb s 10) hexDigit
+    (cond (eqb s 11) anyOctet
+    (cond (eqb s 12) decimalDigit free)))))))
+
+-- the shape of a carried number
+unfoldable pub shapeOf : ℕ → Shape
+shapeOf n = cond (isPlain n) (plainShape n) (gppShape (n - 256))
+
+-- "text "98-" and 6 hexadecimal digits (m = 11)": a release's two digits and a dash, then so many hexadecimal digits
+abbrev pub release : (one two count : ℕ) → List ℕ → Bool
+release a b n v = same (take 3 v) (a ∷ b ∷ 45 ∷ []) && (eqb (length v) (3 + n) && all isHex (drop 3 v))
+
+-- the value meets the shape
+unfoldable pub meets : Shape → List ℕ → Bool
+meets number v = eqb (length v) 4
+meets address v = eqb (length v) 4
+meets (digits a b) v = between a b (length v) && all isDigit v
+meets (hexadecimal n) v = eqb (length v) n && all isHex v
+meets qos v = release 57 56 6 v || release 57 57 22 v
+meets hexDigit v = eqb (length v) 1 && all isHex v
+meets anyOctet v = eqb (length v) 1
+meets decimalDigit v = eqb (length v) 1 && all isDigit v
+meets (atLeast n) v = leb n (length v)
+meets (exactly n) v = eqb (length v) n
+meets blocks v = between 16 128 (length v) && eqb (length v % 16) 0
+meets free v = true
+
+-- "40 is 1, 2, 7, 8, 3 for kinds 2, 3, 4, 5, 6": the status that a kind other than 1 asks for
+abbrev pub statusOf : (kind : ℕ) → ℕ
+statusOf kind = getD (1 ∷ 2 ∷ 7 ∷ 8 ∷ 3 ∷ []) (kind - 2) 0
+
+-- "Allowed values, where the shape holds"
+unfoldable pub allowed : (kind number : ℕ) → List ℕ → Bool
+allowed kind n v =
+    cond (eqb n 6) (eqb (numberOf v) 2)
+    (cond (eqb n 7) (eqb (numberOf v) 7)
+    (cond (eqb n 45) (isIn (numberOf v) (1 ∷ 2 ∷ []))
+    (cond (eqb n 49) (between 1 18 (numberOf v))
+    (cond (eqb n 40) (eqb kind 1 || eqb (numberOf v) (statusOf kind))
+    (cond (eqb n (gpp 3)) (eqb (numberOf v) 0)
+    (cond (eqb n (gpp 11)) (eqb (numberOf v) 255)
+    (cond (eqb n (gpp 12)) (between 0 2 (numberOf (values v))) true)))))))
