@@ -28,6 +28,10 @@ mod paper;
 mod random;
 #[path = "tests/readings.rs"]
 mod readings;
+#[path = "tests/readings_breaches.rs"]
+mod readings_breaches;
+#[path = "tests/readings_sheets.rs"]
+mod readings_sheets;
 #[path = "tests/sheets.rs"]
 mod sheets;
 #[path = "tests/tally.rs"]
@@ -37,6 +41,8 @@ fn main() {
     let mut tally = tally::Tally::new();
     paper::run(&mut tally);
     readings::run(&mut tally);
+    readings_sheets::run(&mut tally);
+    readings_breaches::run(&mut tally);
     framed::run(&mut tally);
     areas::run(&mut tally);
     sheets::run(&mut tally);

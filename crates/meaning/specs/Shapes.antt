@@ -11,7 +11,7 @@ pub data Shape : Type 0 where
   number : Shape
   address : Shape
   digits : (least most : ℕ) → Shape
-  hexadecimal : (count : ℕ) → Shape
+  hexadecimal : Shape
   qos : Shape
   hexDigit : Shape
   anyOctet : Shape
@@ -27,7 +27,7 @@ plainShape t =
     cond (isIn t (6 ∷ 7 ∷ []) || (between 40 43 t || (between 45 49 t || eqb t 61))) number
     (cond (isIn t (4 ∷ 8 ∷ 9 ∷ [])) address
     (cond (eqb t 31) (digits 1 15)
-    (cond (eqb t 44) (hexadecimal 16)
+    (cond (eqb t 44) hexadecimal
     (cond (isIn t (1 ∷ 18 ∷ 24 ∷ 25 ∷ 30 ∷ 32 ∷ [])) (atLeast 1)
     (cond (eqb t 2) blocks
     (cond (eqb t 3) (exactly 17)
@@ -58,7 +58,7 @@ unfoldable pub meets : Shape → List ℕ → Bool
 meets number v = eqb (length v) 4
 meets address v = eqb (length v) 4
 meets (digits a b) v = between a b (length v) && all isDigit v
-meets (hexadecimal n) v = eqb (length v) n && all isHex v
+meets hexadecimal v = eqb (length v) 16 && all isHex v
 meets qos v = release 57 56 6 v || release 57 57 22 v
 meets hexDigit v = eqb (length v) 1 && all isHex v
 meets anyOctet v = eqb (length v) 1

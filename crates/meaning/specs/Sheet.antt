@@ -24,7 +24,7 @@ unfoldable pub formOf : Shape → ℕ
 formOf number = 2
 formOf address = 3
 formOf (digits a b) = 4
-formOf (hexadecimal n) = 5
+formOf hexadecimal = 5
 formOf qos = 6
 formOf hexDigit = 7
 formOf anyOctet = 7
@@ -39,7 +39,7 @@ unfoldable pub storedOf : Shape → List ℕ → List ℕ
 storedOf number v = v
 storedOf address v = v
 storedOf (digits a b) v = pack (values v)
-storedOf (hexadecimal n) v = pack (values v)
+storedOf hexadecimal v = pack (values v)
 storedOf qos v = (digitValue (getD v 0 0) * 10 + digitValue (getD v 1 0)) ∷ pack (values (drop 3 v))
 storedOf hexDigit v = values v
 storedOf anyOctet v = v
@@ -54,7 +54,7 @@ unfoldable pub valueOf : Shape → (count : ℕ) → List ℕ → List ℕ
 valueOf number c s = s
 valueOf address c s = s
 valueOf (digits a b) c s = text (unpack c s)
-valueOf (hexadecimal n) c s = text (unpack (2 * length s) s)
+valueOf hexadecimal c s = text (unpack (2 * length s) s)
 valueOf qos c s = text ((getD s 0 0 / 10) ∷ (getD s 0 0 % 10) ∷ []) ++ 45 ∷ text (unpack (2 * (length s - 1)) (drop 1 s))
 valueOf hexDigit c s = text s
 valueOf anyOctet c s = s

@@ -164,9 +164,8 @@ const BARRED: &[(bool, &[u8], &[u8], u8)] = &[
     (false, &[25], &[2, 3, 6], 4),
 ];
 
-const ONCE_PLAIN: &[u8] = &[
-    1, 2, 3, 4, 6, 7, 8, 9, 30, 31, 32, 40, 41, 42, 43, 44, 45, 46, 47, 48, 49, 60, 61,
-];
+const ONCE_PLAIN: &[u8] =
+    &[1, 2, 3, 4, 6, 7, 8, 9, 30, 31, 32, 40, 41, 42, 43, 44, 45, 46, 47, 48, 49, 60, 61];
 const ONCE_GPP: &[u8] = &[1, 2, 3, 4, 5, 6, 7, 8, 9, 10, 11, 12, 18];
 
 /// Numbers wanted: rule, 3GPP or not, number, kinds, the flag that makes it so.

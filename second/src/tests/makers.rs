@@ -37,11 +37,8 @@ pub fn piece(random: &mut Random) -> Piece {
 
 /// A piece that carries the number. A plain 26 is another vendor's.
 pub fn piece_of(random: &mut Random, gpp: bool, number: u8) -> Piece {
-    let value = if !gpp && number == 26 {
-        other_vendor(random)
-    } else {
-        value(random, gpp, number)
-    };
+    let value =
+        if !gpp && number == 26 { other_vendor(random) } else { value(random, gpp, number) };
     Piece { gpp, number, value }
 }
 

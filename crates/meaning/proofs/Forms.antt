@@ -1,0 +1,245 @@
+-- The forms: a value comes back from what is stored of it, forms 2 to 7 are used exactly when the value meets its shape, and what
+-- is stored is no longer than the value. Assumes nothing.
+use mathlib.Core.Path.{_≡_, refl, sym, ap, subst, _∙_}
+use mathlib.Core.Logic.{_⊎_, inl, inr, ⊎-elim, _↔_}
+use mathlib.Core.Bool.{Bool, true, false, cond, _&&_, _||_}
+use mathlib.Core.List.{List, [], _∷_, _++_}
+use Prim.Native.Nat.{ℕ, zero, suc, _+_, _*_, _-_, _/_, _%_, _<_, _≤_}
+use native.Mathlib.Omega.{arith}
+use lib.Dec.{T, eqb, leb, ltb, eqb→eq, leb→le}
+use borrow.Author.Tests.{lt-leb, eq-eqb, eqb-true}
+use lib.ListN.{length, take, drop, length-drop}
+use Rattle.meaning.specs.Octets.{between, all, same, Octets, isDigit, isHex, digitValue, digitText, values, text, pack, unpack, packedLength}
+use Rattle.meaning.specs.Framing.{isPlain}
+use Rattle.meaning.specs.Shapes.{Shape, number, address, digits, hexadecimal, qos, hexDigit, anyOctet, decimalDigit, atLeast, exactly, blocks, free, shapeOf, release, meets}
+use Rattle.meaning.specs.Sheet.{formOf, storedOf, valueOf, decodes, form, stored, count, storedLength, valueIn}
+use Rattle.meaning.proofs.Packing.{Hexes, digits-hexes, hexes-octets, values-length, pack-length, text-values, text-back, text-back-even}
+use Rattle.meaning.proofs.Tests.{both-left, both-right, either, passes, same-one}
+
+-- ---- Only-form
+
+-- the shape of the number has a form of its own
+abbrev pub HasForm : (n : ℕ) → Type 0
+HasForm n = T (leb 2 (formOf (shapeOf n)))
+
+raw-low : (b : Bool) → leb 2 (cond b 0 1) ≡ false
+raw-low true = refl
+raw-low false = refl
+
+-- Forms 2 to 7 are used exactly when the number has one and the value meets its shape.
+pub only-form : (n : ℕ) (v : List ℕ) → T (leb 2 (form n v)) ↔ (HasForm n × T (meets (shapeOf n) v))
+unfolding form decodes
+only-form n v = (there, back)
+  where
+    there : T (leb 2 (cond (leb 2 (formOf (shapeOf n)) && meets (shapeOf n) v) (formOf (shapeOf n)) (cond (isPlain n) 0 1))) → HasForm n × T (meets (shapeOf n) v)
+    there = go (leb 2 (formOf (shapeOf n))) (meets (shapeOf n) v) refl
+      where
+        go : (a b : Bool) → leb 2 (formOf (shapeOf n)) ≡ a → T (leb 2 (cond (a && b) (formOf (shapeOf n)) (cond (isPlain n) 0 1))) → T a × T b
+        go true true e t = (tt, tt)
+        go true false e t = absurd (rw (raw-low (isPlain n)) at t)
+        go false b e t = absurd (rw (raw-low (isPlain n)) at t)
+
+    back : HasForm n × T (meets (shapeOf n) v) → T (leb 2 (cond (leb 2 (formOf (shapeOf n)) && meets (shapeOf n) v) (formOf (shapeOf n)) (cond (isPlain n) 0 1)))
+    back p = go (leb 2 (formOf (shapeOf n))) (meets (shapeOf n) v) refl (p .0) (p .1)
+      where
+        go : (a b : Bool) → leb 2 (formOf (shapeOf n)) ≡ a → T a → T b → T (leb 2 (cond (a && b) (formOf (shapeOf n)) (cond (isPlain n) 0 1)))
+        go true true e s t = rw e tt
+        go true false e s t = absurd t
+        go false b e s t = absurd s
+
+-- ---- The value comes back
+
+-- what a QoS text of a release is made of
+record Released (a b n : ℕ) (v : List ℕ) : Type 0 where
+  front : take 3 v ≡ a ∷ b ∷ 45 ∷ []
+  long : length v ≡ 3 + n
+  hexes : Hexes (drop 3 v)
+
+released : (a b n : ℕ) (v : List ℕ) → T (release a b n v) → Released a b n v
+released a b n v t =
+    let u : T (eqb (length v) (3 + n) && all isHex (drop 3 v)) = both-right (same (take 3 v) (a ∷ b ∷ 45 ∷ [])) _ t in
+    record {
+      front = same-one (take 3 v) (a ∷ b ∷ 45 ∷ []) (both-left (same (take 3 v) (a ∷ b ∷ 45 ∷ [])) (eqb (length v) (3 + n) && all isHex (drop 3 v)) t);
+      long = eqb→eq (length v) (3 + n) (both-left (eqb (length v) (3 + n)) (all isHex (drop 3 v)) u);
+      hexes = both-right (eqb (length v) (3 + n)) (all isHex (drop 3 v)) u;
+    }
+
+released-octets : (a b n : ℕ) (v : List ℕ) → a < 256 → b < 256 → Released a b n v → Octets v
+released-octets a b n [] h g r = tt
+released-octets a b n (x ∷ []) h g r = absurd (omega (arith, r .long))
+released-octets a b n (x ∷ y ∷ []) h g r = absurd (omega (arith, r .long))
+released-octets a b n (x ∷ y ∷ z ∷ v) h g r =
+    let e : x ∷ y ∷ z ∷ [] ≡ a ∷ b ∷ 45 ∷ [] = r .front in
+    let ex : x ≡ a = cc in
+    let ey : y ≡ b = cc in
+    let ez : z ≡ 45 = cc in
+    (omega arith, (omega arith, (omega arith, hexes-octets v (r .hexes))))
+
+qos-back : (a b k : ℕ) (v : List ℕ) → digitText (digitValue a) ≡ a → digitText (digitValue b) ≡ b → digitValue b < 10 → Released a b (2 * k) v → (c : ℕ) → valueOf qos c (storedOf qos v) ≡ v
+unfolding valueOf storedOf text
+qos-back a b k [] ea eb low r c = absurd (omega (arith, r .long))
+qos-back a b k (x ∷ []) ea eb low r c = absurd (omega (arith, r .long))
+qos-back a b k (x ∷ y ∷ []) ea eb low r c = absurd (omega (arith, r .long))
+qos-back a b k (x ∷ y ∷ z ∷ v) ea eb low r c =
+    let e : x ∷ y ∷ z ∷ [] ≡ a ∷ b ∷ 45 ∷ [] = r .front in
+    let n : suc (suc (suc (length v))) ≡ 3 + 2 * k = r .long in
+    let ex : x ≡ a = cc in
+    let ey : y ≡ b = cc in
+    let ez : z ≡ 45 = cc in
+    let high : (digitValue a * 10 + digitValue b) / 10 ≡ digitValue a = omega arith in
+    let low : (digitValue a * 10 + digitValue b) % 10 ≡ digitValue b = omega arith in
+    let one : suc (length (pack (values v))) - 1 ≡ length (pack (values v)) = omega arith in
+    rw (ex, ey, ez, high, low, one, ea, eb) (ap (λ (l : List ℕ). a ∷ b ∷ 45 ∷ l) (text-back-even v k (omega arith) (r .hexes)))
+
+-- The value comes back from the octets it is stored in; the count serves form 4 alone.
+pub value-back : (s : Shape) (v : List ℕ) (c : ℕ) → T (leb 2 (formOf s)) → T (meets s v) → (formOf s ≡ 4 → c ≡ length v) → valueOf s c (storedOf s v) ≡ v
+unfolding formOf meets valueOf storedOf
+value-back number v c f t e = refl
+value-back address v c f t e = refl
+value-back (digits a b) v c f t e = rw (e refl) (text-back v (digits-hexes v (both-right (between a b (length v)) (all isDigit v) t)))
+value-back hexadecimal v c f t e =
+    text-back-even v 8 (eqb→eq (length v) 16 (both-left (eqb (length v) 16) (all isHex v) t)) (both-right (eqb (length v) 16) (all isHex v) t)
+value-back qos v c f t e =
+    ⊎-elim (λ u. qos-back 57 56 3 v refl refl (omega arith) (released 57 56 6 v u) c)
+    (λ u. qos-back 57 57 11 v refl refl (omega arith) (released 57 57 22 v u) c)
+    (either (release 57 56 6 v) (release 57 57 22 v) t)
+value-back hexDigit v c f t e = text-values v (both-right (eqb (length v) 1) (all isHex v) t)
+value-back anyOctet v c f t e = refl
+value-back decimalDigit v c f t e = text-values v (digits-hexes v (both-right (eqb (length v) 1) (all isDigit v) t))
+value-back (atLeast n) v c f t e = absurd f
+value-back (exactly n) v c f t e = absurd f
+value-back blocks v c f t e = absurd f
+value-back free v c f t e = absurd f
+
+-- ---- Lengths
+
+-- What is stored of a value that meets its shape is no longer than the value.
+stored-shorter : (s : Shape) (v : List ℕ) → T (meets s v) → length (storedOf s v) ≤ length v
+unfolding meets storedOf
+stored-shorter number v t = omega arith
+stored-shorter address v t = omega arith
+stored-shorter (digits a b) v t = omega (arith, pack-length (values v), values-length v)
+stored-shorter hexadecimal v t = omega (arith, pack-length (values v), values-length v)
+stored-shorter qos v t =
+    ⊎-elim (λ u. omega (arith, released 57 56 6 v u .long, pack-length (values (drop 3 v)), values-length (drop 3 v), length-drop 3 v))
+    (λ u. omega (arith, released 57 57 22 v u .long, pack-length (values (drop 3 v)), values-length (drop 3 v), length-drop 3 v))
+    (either (release 57 56 6 v) (release 57 57 22 v) t)
+stored-shorter hexDigit v t = omega (arith, values-length v)
+stored-shorter anyOctet v t = omega arith
+stored-shorter decimalDigit v t = omega (arith, values-length v)
+stored-shorter (atLeast n) v t = omega arith
+stored-shorter (exactly n) v t = omega arith
+stored-shorter blocks v t = omega arith
+stored-shorter free v t = omega arith
+
+-- The stored octets of form 4 are half the digits, rounded up.
+digits-stored : (s : Shape) (v : List ℕ) → formOf s ≡ 4 → length (storedOf s v) ≡ packedLength (length v)
+unfolding formOf storedOf
+digits-stored number v e = absurd (omega arith)
+digits-stored address v e = absurd (omega arith)
+digits-stored (digits a b) v e = pack-length (values v) ∙ ap packedLength (values-length v)
+digits-stored hexadecimal v e = absurd (omega arith)
+digits-stored qos v e = absurd (omega arith)
+digits-stored hexDigit v e = absurd (omega arith)
+digits-stored anyOctet v e = absurd (omega arith)
+digits-stored decimalDigit v e = absurd (omega arith)
+digits-stored (atLeast n) v e = absurd (omega arith)
+digits-stored (exactly n) v e = absurd (omega arith)
+digits-stored blocks v e = absurd (omega arith)
+digits-stored free v e = absurd (omega arith)
+
+-- A value that meets a shape with a form of its own is made of octets if what is stored of it is.
+value-octets : (s : Shape) (v : List ℕ) → T (meets s v) → Octets (storedOf s v) → Octets v
+unfolding meets storedOf
+value-octets number v t o = o
+value-octets address v t o = o
+value-octets (digits a b) v t o = hexes-octets v (digits-hexes v (both-right (between a b (length v)) (all isDigit v) t))
+value-octets hexadecimal v t o = hexes-octets v (both-right (eqb (length v) 16) (all isHex v) t)
+value-octets qos v t o =
+    ⊎-elim (λ u. released-octets 57 56 6 v (omega arith) (omega arith) (released 57 56 6 v u))
+    (λ u. released-octets 57 57 22 v (omega arith) (omega arith) (released 57 57 22 v u))
+    (either (release 57 56 6 v) (release 57 57 22 v) t)
+value-octets hexDigit v t o = hexes-octets v (both-right (eqb (length v) 1) (all isHex v) t)
+value-octets anyOctet v t o = o
+value-octets decimalDigit v t o = hexes-octets v (digits-hexes v (both-right (eqb (length v) 1) (all isDigit v) t))
+value-octets (atLeast n) v t o = o
+value-octets (exactly n) v t o = o
+value-octets blocks v t o = o
+value-octets free v t o = o
+
+-- ---- The same of an item: its number, and its value in whatever form
+
+-- in an item's form 4 the number has form 4, and the value meets its shape
+pub record Plainly (n : ℕ) (v : List ℕ) : Type 0 where
+  pub form-is : form n v ≡ cond (isPlain n) 0 1
+  pub stored-is : stored n v ≡ v
+
+pub record Decoded (n : ℕ) (v : List ℕ) : Type 0 where
+  pub own : HasForm n
+  pub met : T (meets (shapeOf n) v)
+  pub form-is : form n v ≡ formOf (shapeOf n)
+  pub stored-is : stored n v ≡ storedOf (shapeOf n) v
+
+pub either-way : (n : ℕ) (v : List ℕ) → Decoded n v ⊎ Plainly n v
+unfolding form stored decodes
+either-way n v = go (leb 2 (formOf (shapeOf n)) && meets (shapeOf n) v) refl
+  where
+    go : (b : Bool) → leb 2 (formOf (shapeOf n)) && meets (shapeOf n) v ≡ b → Decoded n v ⊎ Plainly n v
+    go true e =
+        inl (record {
+          own = both-left (leb 2 (formOf (shapeOf n))) (meets (shapeOf n) v) (passes _ e);
+          met = both-right (leb 2 (formOf (shapeOf n))) (meets (shapeOf n) v) (passes _ e);
+          form-is = rw e;
+          stored-is = rw e;
+        })
+    go false e = inr (record { form-is = rw e; stored-is = rw e })
+
+raw-not-4 : (b : Bool) → eqb (cond b 0 1) 4 ≡ false
+raw-not-4 true = refl
+raw-not-4 false = refl
+
+raw-le-1 : (b : Bool) → leb (cond b 0 1) 1 ≡ true
+raw-le-1 true = refl
+raw-le-1 false = refl
+
+-- An item announces as many octets as it stores.
+pub announced : (n : ℕ) (v : List ℕ) → storedLength (form n v) (count n v) ≡ length (stored n v)
+unfolding count
+announced n v = go (eqb (form n v) 4) refl (either-way n v)
+  where
+    go : (b : Bool) → eqb (form n v) 4 ≡ b → Decoded n v ⊎ Plainly n v → cond b (packedLength (cond b (length v) (length (stored n v)))) (cond b (length v) (length (stored n v))) ≡ length (stored n v)
+    go false e w = refl
+    go true e (inl d) =
+        sym (ap length (d .stored-is) ∙ digits-stored (shapeOf n) v (sym (d .form-is) ∙ eqb-true (form n v) 4 e))
+    go true e (inr p) = let f : true ≡ false = sym e ∙ rw (p .form-is) (raw-not-4 (isPlain n)) in absurd (subst T f tt)
+
+-- An item stands for its value.
+pub stands-for : (n : ℕ) (v : List ℕ) → valueIn n (form n v) (count n v) (stored n v) ≡ v
+unfolding count
+stands-for n v = go (either-way n v)
+  where
+    go : Decoded n v ⊎ Plainly n v → valueIn n (form n v) (count n v) (stored n v) ≡ v
+    go (inl d) =
+        let low : leb (formOf (shapeOf n)) 1 ≡ false = lt-leb (formOf (shapeOf n)) 1 (leb→le 2 _ (d .own)) in
+        rw (d .form-is, low, d .stored-is)
+        (value-back (shapeOf n) v (cond (eqb (formOf (shapeOf n)) 4) (length v) (length (storedOf (shapeOf n) v))) (d .own) (d .met)
+        (λ e. rw (eq-eqb (formOf (shapeOf n)) 4 e)))
+    go (inr p) = rw (p .form-is, p .stored-is, raw-le-1 (isPlain n))
+
+-- What is stored is no longer than the value.
+pub stored-le : (n : ℕ) (v : List ℕ) → length (stored n v) ≤ length v
+stored-le n v = ⊎-elim (λ d. rw (d .stored-is) (stored-shorter (shapeOf n) v (d .met))) (λ p. rw (p .stored-is) (omega arith)) (either-way n v)
+
+-- The count is no more than the value's octets.
+pub count-le : (n : ℕ) (v : List ℕ) → count n v ≤ length v
+unfolding count
+count-le n v = go (eqb (form n v) 4)
+  where
+    go : (b : Bool) → cond b (length v) (length (stored n v)) ≤ length v
+    go true = omega arith
+    go false = stored-le n v
+
+-- A value is made of octets if what is stored of it is.
+pub octets-from-stored : (n : ℕ) (v : List ℕ) → Octets (stored n v) → Octets v
+octets-from-stored n v o =
+    ⊎-elim (λ d. value-octets (shapeOf n) v (d .met) (rw (d .stored-is) at o)) (λ p. rw (p .stored-is) at o) (either-way n v)

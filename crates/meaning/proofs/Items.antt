@@ -1,0 +1,125 @@
+-- The items of a sheet: what stands at the front of an item's octets is that item, and what is accepted there is an item.
+-- Assumes nothing.
+use mathlib.Core.Path.{_≡_, refl, sym, ap, subst, _∙_}
+use mathlib.Core.Logic.{_⊎_, inl, inr, ⊎-elim}
+use mathlib.Core.Bool.{Bool, true, false, cond, not, _&&_}
+use mathlib.Core.List.{List, [], _∷_, _++_}
+use Prim.Native.Nat.{ℕ, zero, suc, _+_, _-_, _<_, _≤_}
+use native.Mathlib.Omega.{arith}
+use lib.Dec.{T, eqb, leb, ltb, leb→le}
+use borrow.Author.Tests.{lt-ltb, le-ltb, eq-eqb, ne-eqb, ltb-true, ltb-false, eqb-true, eqb-false}
+use lib.ListN.{length, take, drop, getD, length-append, length-take}
+use lib.Seq.{take-at, drop-at, length-take-le}
+use Rattle.meaning.specs.Octets.{Octets, same}
+use Rattle.meaning.specs.Framing.{gpp, isPlain}
+use Rattle.meaning.specs.Shapes.{shapeOf, plainShape, meets}
+use Rattle.meaning.specs.Sheet.{typeOf, subOf, formOf, decodes, form, stored, count, item, carries, numberIn, valueIn, storedLength, Entered, holds, refused, judgedItem, wholeItem, entered}
+use Rattle.meaning.proofs.Tests.{both, both-left, both-right, is-true, passes, same-one, same-itself}
+use Rattle.meaning.proofs.Forms.{announced, stands-for, either-way}
+
+form-26 : (v : List ℕ) → form 26 v ≡ 0
+unfolding form decodes shapeOf plainShape formOf
+form-26 v = refl
+
+form-3gpp : (n : ℕ) (v : List ℕ) → isPlain n ≡ false → form n v ≡ 0 → ⊥
+form-3gpp n v p e = ⊎-elim (λ d. let g : 2 ≤ formOf (shapeOf n) = leb→le 2 _ (d .own) in let f = d .form-is in omega arith) (λ q. let f : form n v ≡ 1 = q .form-is ∙ rw p in omega arith) (either-way n v)
+
+-- An item's head names its number.
+number-in : (n : ℕ) (v : List ℕ) → numberIn (typeOf n) (subOf n) (form n v) ≡ n
+number-in n v = go (isPlain n) refl
+  where
+    low : (c : Bool) → eqb n 26 ≡ c → cond (c && not (eqb (form n v) 0)) (gpp 0) n ≡ n
+    low true e = let q : n ≡ 26 = eqb-true n 26 e in rw (q, form-26 v)
+    low false e = refl
+
+    go : (b : Bool) → isPlain n ≡ b → cond (eqb (cond b n 26) 26 && not (eqb (form n v) 0)) (gpp (cond b 0 (n - 256))) (cond b n 26) ≡ n
+    go true e = low (eqb n 26) refl
+    go false e = let h : 256 ≤ n = ltb-false n 256 e in rw (ne-eqb (form n v) 0 (form-3gpp n v e)) (omega arith)
+
+-- the item's own octets, out of what follows
+front : (n : ℕ) (v rest : List ℕ) → take (4 + storedLength (form n v) (count n v)) (item n v ++ rest) ≡ item n v
+unfolding item
+front n v rest = take-at (item n v) rest (4 + storedLength (form n v) (count n v)) (omega (arith, announced n v))
+
+accepts : (n : ℕ) (v : List ℕ) → T (carries n v) → judgedItem n v (item n v) ≡ holds n v (length (item n v))
+unfolding judgedItem
+accepts n v t = rw (is-true (carries n v && same (item n v) (item n v)) (both (carries n v) (same (item n v) (item n v)) t (same-itself (item n v))))
+
+-- An item at the front is accepted as the item that it is.
+pub item-entered : (n : ℕ) (v rest : List ℕ) → T (carries n v) → entered (item n v ++ rest) ≡ holds n v (length (item n v))
+unfolding entered wholeItem item
+item-entered n v rest t =
+    let l : length (stored n v ++ rest) ≡ length (stored n v) + length rest = length-append (stored n v) rest in
+    let s : storedLength (form n v) (count n v) ≡ length (stored n v) = announced n v in
+    let four : ltb (length (item n v ++ rest)) 4 ≡ false = le-ltb (length (item n v ++ rest)) 4 (omega arith) in
+    let whole : ltb (length (item n v ++ rest)) (4 + storedLength (form n v) (count n v)) ≡ false = le-ltb (length (item n v ++ rest)) (4 + storedLength (form n v) (count n v)) (omega arith) in
+    rw (four, whole, front n v rest, number-in n v, stands-for n v) (accepts n v t)
+
+-- What is accepted at the front of some octets of a sheet.
+pub record Accepted (l : List ℕ) (n : ℕ) (v : List ℕ) (size : ℕ) : Type 0 where
+  pub carried : T (carries n v)
+  pub same-octets : item n v ≡ take size l
+  pub inside : size ≤ length l
+  pub low : n < 512
+
+record Judged (n : ℕ) (v it : List ℕ) (n′ : ℕ) (v′ : List ℕ) (size : ℕ) : Type 0 where
+  number-is : n ≡ n′
+  size-is : length it ≡ size
+  carried : T (carries n′ v′)
+  same-octets : item n′ v′ ≡ it
+
+judged-holds : (n : ℕ) (v it : List ℕ) (n′ : ℕ) (v′ : List ℕ) (size : ℕ) → judgedItem n v it ≡ holds n′ v′ size → Judged n v it n′ v′ size
+unfolding judgedItem
+judged-holds n v it n′ v′ size e = go (carries n v && same (item n v) it) refl e
+  where
+    go : (b : Bool) → carries n v && same (item n v) it ≡ b → cond b (holds n v (length it)) (refused 23) ≡ holds n′ v′ size → Judged n v it n′ v′ size
+    go true q e =
+        let en : n ≡ n′ = cc in
+        let ev : v ≡ v′ = cc in
+        let t : T (carries n′ v′ && same (item n′ v′) it) = rw (en, ev) at (passes _ q) in
+        record {
+          number-is = en;
+          size-is = cc;
+          carried = both-left (carries n′ v′) (same (item n′ v′) it) t;
+          same-octets = same-one (item n′ v′) it (both-right (carries n′ v′) (same (item n′ v′) it) t);
+        }
+    go false q e = absurd (let z : _≡_ {A = ℕ} 0 1 = cc in omega arith)
+
+number-low : (t s f : ℕ) → t < 256 → s < 256 → numberIn t s f < 512
+number-low t s f h g = go (eqb t 26 && not (eqb f 0))
+  where
+    go : (b : Bool) → cond b (gpp s) t < 512
+    go true = omega arith
+    go false = omega arith
+
+octet-at : (l : List ℕ) (i : ℕ) → Octets l → getD l i 0 < 256
+octet-at [] i o = omega arith
+octet-at (x ∷ l) zero o = o .0
+octet-at (x ∷ l) (suc i) o = octet-at l i (o .1)
+
+-- What is accepted at the front is the item of what it holds.
+pub entered-holds : (l : List ℕ) (n : ℕ) (v : List ℕ) (size : ℕ) → Octets l → entered l ≡ holds n v size → Accepted l n v size
+unfolding entered wholeItem
+entered-holds l n v size o e = go (ltb (length l) 4) (ltb (length l) (4 + storedLength (getD l 2 0) (getD l 3 0))) refl e
+  where
+    long : ℕ
+    long = 4 + storedLength (getD l 2 0) (getD l 3 0)
+
+    named : ℕ
+    named = numberIn (getD l 0 0) (getD l 1 0) (getD l 2 0)
+
+    whole : 4 + storedLength (getD l 2 0) (getD l 3 0) ≤ length l → judgedItem named (valueIn named (getD l 2 0) (getD l 3 0) (drop 4 (take long l))) (take long l) ≡ holds n v size → Accepted l n v size
+    whole h e =
+        let j = judged-holds named (valueIn named (getD l 2 0) (getD l 3 0) (drop 4 (take long l))) (take long l) n v size e in
+        let s : long ≡ size = sym (length-take-le long l h) ∙ j .size-is in
+        record {
+          carried = j .carried;
+          same-octets = j .same-octets ∙ ap (λ (k : ℕ). take k l) s;
+          inside = omega (arith, s);
+          low = omega (arith, j .number-is, number-low (getD l 0 0) (getD l 1 0) (getD l 2 0) (octet-at l 0 o) (octet-at l 1 o));
+        }
+
+    go : (a b : Bool) → ltb (length l) (4 + storedLength (getD l 2 0) (getD l 3 0)) ≡ b → cond a (refused 22) (cond b (refused 22) (wholeItem l)) ≡ holds n v size → Accepted l n v size
+    go true b q e = absurd (let z : _≡_ {A = ℕ} 0 1 = cc in omega arith)
+    go false true q e = absurd (let z : _≡_ {A = ℕ} 0 1 = cc in omega arith)
+    go false false q e = whole (ltb-false _ _ q) e

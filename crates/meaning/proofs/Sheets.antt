@@ -1,0 +1,218 @@
+-- Demand 2, of the meaning: a sheet made by reading is judged to be its area, kind and flags; a sheet that the judgement accepts is
+-- the sheet of what it gives; so a sheet is accepted exactly when some readable area has it, and it has one. Assumes nothing.
+use mathlib.Core.Path.{_≡_, refl, sym, ap, subst, _∙_}
+use mathlib.Core.Logic.{_↔_}
+use mathlib.Core.Bool.{Bool, true, false, cond, not, _&&_}
+use mathlib.Core.List.{List, [], _∷_, _++_}
+use Prim.Native.Nat.{ℕ, zero, suc, _+_, _*_, _-_, _<_, _≤_}
+use native.Mathlib.Omega.{arith}
+use lib.Dec.{T, ltb, leb, leb→le}
+use borrow.Author.Tests.{le-ltb, le-leb, ltb-true, ltb-false, not-false}
+use lib.ListN.{length, take, drop, getD, length-append, length-drop, take-append-drop}
+use lib.Seq.{drop-cons, drop-drop, length-take-le}
+use Rattle.meaning.specs.Octets.{Octets, same, numberOf, octetsOf}
+use Rattle.meaning.specs.Jobs.{isKind, areFlags}
+use Rattle.meaning.specs.Framing.{isPlain, Attribute, Walk, from, walkAt, walk, attributes}
+use Rattle.meaning.specs.Refusals.{Refusal, none, refusal, when, first, fault, tooLong, areaRefusal, sheetRefusal}
+use Rattle.meaning.specs.Sheet.{mark, itemsOf, sheetWith, sheetOf, Readable, Writable, attributeOctets, areaOf, carries, items, itemsIn, kindIn, flagsIn, areaIn, marked, judged}
+use Rattle.meaning.proofs.Tests.{both-left, both-right, is-true, passes, same-one}
+use Rattle.meaning.proofs.Numbers.{number-back, octets-back}
+use Rattle.meaning.proofs.Framing.{plain-lines, gpp-lines}
+use Rattle.meaning.proofs.RoundTrip.{Carried, All, Walked, walked, Reread, reread, Kept, kept, Judged, judged-items, octets-drop, octets-append, octets-take, no-refusal}
+
+-- ---- What it takes to be read
+
+-- An area with kind and flags of which nothing of 1 to 8 applies.
+pub record Clear (kind flags : ℕ) (area : List ℕ) : Type 0 where
+  pub kind-ok : isKind kind ≡ true
+  pub flags-ok : areFlags flags ≡ true
+  pub short : length area ≤ 4076
+  pub sound : fault (walk area) ≡ none
+
+-- no line of the book applies where the first of them does not
+when-none : (b : Bool) (n s : ℕ) (r : Refusal) → first (when b n s) r ≡ none → (b ≡ false) × (r ≡ none)
+when-none true n s r e = no-refusal n s e
+when-none false n s r e = (refl, e)
+
+first-none : (q r : Refusal) → first q r ≡ none → (q ≡ none) × (r ≡ none)
+first-none none r e = (refl, e)
+first-none (refusal n s) r e = no-refusal n s e
+
+when-is-none : (b : Bool) (n s : ℕ) → when b n s ≡ none → b ≡ false
+when-is-none true n s e = no-refusal n s e
+when-is-none false n s e = refl
+
+pub clear : (kind flags : ℕ) (area : List ℕ) → areaRefusal kind flags area ≡ none → Clear kind flags area
+unfolding areaRefusal
+clear kind flags area e =
+    let a = when-none (not (isKind kind)) 1 0 (first (when (not (areFlags flags)) 2 0) (first (tooLong 3 (length area)) (fault (walk area)))) e in
+    let b = when-none (not (areFlags flags)) 2 0 (first (tooLong 3 (length area)) (fault (walk area))) (a .1) in
+    let c = when-none (ltb 4076 (length area)) 3 (length area) (fault (walk area)) (b .1) in
+    record { kind-ok = not-false (isKind kind) (a .0); flags-ok = not-false (areFlags flags) (b .0); short = ltb-false 4076 (length area) (c .0); sound = c .1 }
+
+pub clear-read : (kind flags : ℕ) (area : List ℕ) → Clear kind flags area → areaRefusal kind flags area ≡ none
+unfolding areaRefusal
+clear-read kind flags area c = rw (c .kind-ok, c .flags-ok, le-ltb 4076 (length area) (c .short)) (c .sound)
+
+-- ---- There
+
+attribute-long : (n : ℕ) (v : List ℕ) → 2 ≤ length (attributeOctets n v)
+unfolding attributeOctets
+attribute-long n v = go (isPlain n)
+  where
+    go : (b : Bool) → 2 ≤ length (cond b (n ∷ (length v + 2) ∷ v) (26 ∷ (length v + 8) ∷ 0 ∷ 0 ∷ 40 ∷ 175 ∷ (n - 256) ∷ (length v + 2) ∷ v))
+    go true = omega arith
+    go false = omega arith
+
+-- Attributes take two octets each, at least.
+pub area-long : (l : List Attribute) → 2 * length l ≤ length (areaOf l)
+unfolding areaOf
+area-long [] = omega arith
+area-long (a ∷ l) = omega (arith, area-long l, attribute-long (a .number) (a .value), length-append (attributeOctets (a .number) (a .value)) (areaOf l))
+
+-- What a sheet with these attributes says of itself.
+pub record Says (kind flags : ℕ) (l : List Attribute) (sheet : List ℕ) : Type 0 where
+  pub marked-is : marked sheet ≡ true
+  pub kind-is : kindIn sheet ≡ kind
+  pub flags-is : flagsIn sheet ≡ flags
+  pub items-are : itemsIn sheet ≡ items (length l) 9 (itemsOf l)
+
+pub sheet-says : (kind flags : ℕ) (l : List Attribute) → length l < 65536 → Says kind flags l (sheetWith kind flags l)
+unfolding sheetWith marked itemsIn octetsOf
+sheet-says kind flags l h =
+    record {
+      marked-is = rw (le-leb 9 (length (sheetWith kind flags l)) (omega arith));
+      kind-is = refl;
+      flags-is = refl;
+      items-are = ap (λ (n : ℕ). items n 9 (itemsOf l)) (number-back 2 (length l) h);
+    }
+
+-- What a judged sheet gives back.
+pub record Returned (kind flags : ℕ) (area sheet : List ℕ) : Type 0 where
+  pub accepted : judged sheet ≡ none
+  pub kind-is : kindIn sheet ≡ kind
+  pub flags-is : flagsIn sheet ≡ flags
+  pub area-is : areaIn sheet ≡ area
+
+-- Judging the sheet of a readable area gives that area, kind and flags.
+pub sheet-goes-back : (kind flags : ℕ) (area : List ℕ) → Readable kind flags area → Returned kind flags area (sheetOf kind flags area)
+unfolding sheetOf judged sheetRefusal areaIn walk walkAt
+sheet-goes-back kind flags area r =
+    let c = clear kind flags area (r .accepted) in
+    let w = walked 0 0 area (r .octets) (omega arith) in
+    let l : List Attribute = attributes (walk area) in
+    let e : areaOf l ≡ area = w .area-is (c .sound) in
+    let s = sheet-says kind flags l (omega (arith, area-long l, ap length e, c .short)) in
+    let k = kept 9 l (w .carried) in
+    let a : areaIn (sheetWith kind flags l) ≡ area = ap (λ (x : Walk). areaOf (attributes x)) (s .items-are) ∙ k .same-area ∙ e in
+    record {
+      accepted = rw (s .marked-is, s .items-are, s .kind-is, s .flags-is, k .sound, k .same-area, e, c .kind-ok, c .flags-ok, le-ltb 4076 (length area) (c .short));
+      kind-is = s .kind-is;
+      flags-is = s .flags-is;
+      area-is = a;
+    }
+
+-- ---- And back
+
+attribute-octets : (a : Attribute) → Carried a → Octets (attributeOctets (a .number) (a .value))
+unfolding attributeOctets
+attribute-octets a c = go (isPlain (a .number)) refl
+  where
+    v : List ℕ
+    v = a .value
+
+    n : ℕ
+    n = a .number
+
+    go : (b : Bool) → isPlain n ≡ b → Octets (cond b (n ∷ (length v + 2) ∷ v) (26 ∷ (length v + 8) ∷ 0 ∷ 0 ∷ 40 ∷ 175 ∷ (n - 256) ∷ (length v + 2) ∷ v))
+    go true p =
+        let h : n < 256 = ltb-true n 256 p in
+        let g : length v ≤ 253 = leb→le (length v) 253 (both-left (leb (length v) 253) _ (plain-lines n v p (c .carried))) in
+        (h, (omega arith, c .octets))
+    go false p =
+        let g : length v ≤ 246 = gpp-lines n v p (c .carried) in
+        let h : n < 512 = c .low in
+        (omega arith, (omega arith, (omega arith, (omega arith, (omega arith, (omega arith, (omega arith, (omega arith, c .octets))))))))
+
+pub area-octets : (l : List Attribute) → All Carried l → Octets (areaOf l)
+unfolding areaOf
+area-octets [] c = tt
+area-octets (a ∷ l) c = octets-append (attributeOctets (a .number) (a .value)) (areaOf l) (attribute-octets a (c .0)) (area-octets l (c .1))
+
+-- a sheet of nine octets or more is its mark, kind, flags, number of items and the rest
+split : (sheet : List ℕ) → Octets sheet → marked sheet ≡ true → sheet ≡ mark ++ kindIn sheet ∷ flagsIn sheet ∷ octetsOf 2 (numberOf (take 2 (drop 7 sheet))) ++ drop 9 sheet
+unfolding marked
+split sheet o m =
+    let t : T (leb 9 (length sheet) && same (take 5 sheet) mark) = passes _ m in
+    let long : 9 ≤ length sheet = leb→le 9 (length sheet) (both-left (leb 9 (length sheet)) (same (take 5 sheet) mark) t) in
+    let front : take 5 sheet ≡ mark = same-one (take 5 sheet) mark (both-right (leb 9 (length sheet)) (same (take 5 sheet) mark) t) in
+    let five : 5 < length sheet = omega arith in
+    let six : 6 < length sheet = omega arith in
+    let two : length (take 2 (drop 7 sheet)) ≡ 2 = length-take-le 2 (drop 7 sheet) (omega (arith, length-drop 7 sheet)) in
+    let count : octetsOf 2 (numberOf (take 2 (drop 7 sheet))) ≡ take 2 (drop 7 sheet) = ap (λ (w : ℕ). octetsOf w (numberOf (take 2 (drop 7 sheet)))) (sym two) ∙ octets-back (take 2 (drop 7 sheet)) (octets-take 2 (drop 7 sheet) (octets-drop 7 sheet o)) in
+    let rest : drop 7 sheet ≡ take 2 (drop 7 sheet) ++ drop 9 sheet = sym (take-append-drop 2 (drop 7 sheet)) ∙ ap (λ (x : List ℕ). take 2 (drop 7 sheet) ++ x) (drop-drop 2 7 sheet) in
+    sym (take-append-drop 5 sheet) ∙ ap (λ (x : List ℕ). x ++ drop 5 sheet) front
+    ∙ ap (λ (x : List ℕ). mark ++ x) (drop-cons sheet 5 0 five ∙ ap (λ (x : List ℕ). kindIn sheet ∷ x) (drop-cons sheet 6 0 six ∙ ap (λ (x : List ℕ). flagsIn sheet ∷ x) (rest ∙ ap (λ (x : List ℕ). x ++ drop 9 sheet) (sym count))))
+
+-- A sheet of which nothing of 20 to 24 applies.
+pub record Passed (sheet : List ℕ) : Type 0 where
+  pub marked-is : marked sheet ≡ true
+  pub kind-ok : isKind (kindIn sheet) ≡ true
+  pub flags-ok : areFlags (flagsIn sheet) ≡ true
+  pub sound : fault (itemsIn sheet) ≡ none
+  pub short : length (areaIn sheet) ≤ 4076
+
+pub passed : (sheet : List ℕ) → judged sheet ≡ none → Passed sheet
+unfolding judged sheetRefusal
+passed sheet e =
+    let kind : Bool = isKind (kindIn sheet) in
+    let flags : Bool = areFlags (flagsIn sheet) in
+    let len : ℕ = length (areaIn sheet) in
+    let a = when-none (not (marked sheet)) 20 0 (first (when (not (kind && flags)) 21 0) (first (fault (itemsIn sheet)) (tooLong 24 len))) e in
+    let b = when-none (not (kind && flags)) 21 0 (first (fault (itemsIn sheet)) (tooLong 24 len)) (a .1) in
+    let c = first-none (fault (itemsIn sheet)) (tooLong 24 len) (b .1) in
+    let t : T (isKind (kindIn sheet) && areFlags (flagsIn sheet)) = passes (isKind (kindIn sheet) && areFlags (flagsIn sheet)) (not-false (isKind (kindIn sheet) && areFlags (flagsIn sheet)) (b .0)) in
+    record {
+      marked-is = not-false (marked sheet) (a .0);
+      kind-ok = is-true _ (both-left (isKind (kindIn sheet)) (areFlags (flagsIn sheet)) t);
+      flags-ok = is-true _ (both-right (isKind (kindIn sheet)) (areFlags (flagsIn sheet)) t);
+      sound = c .0;
+      short = ltb-false 4076 len (when-is-none (ltb 4076 len) 24 len (c .1));
+    }
+
+-- A sheet that the judgement accepts is the sheet of the area it gives, and that area is readable.
+pub record Accepted (sheet : List ℕ) : Type 0 where
+  pub readable : Readable (kindIn sheet) (flagsIn sheet) (areaIn sheet)
+  pub is : sheet ≡ sheetOf (kindIn sheet) (flagsIn sheet) (areaIn sheet)
+
+pub accepted-sheet : (sheet : List ℕ) → Octets sheet → judged sheet ≡ none → Accepted sheet
+unfolding sheetOf sheetWith areaIn itemsIn walk walkAt
+accepted-sheet sheet o e =
+    let p = passed sheet e in
+    let j = judged-items (numberOf (take 2 (drop 7 sheet))) 9 (drop 9 sheet) (octets-drop 9 sheet o) (p .sound) in
+    let l : List Attribute = attributes (itemsIn sheet) in
+    let r = reread 0 l (j .carried) in
+    let clear : Clear (kindIn sheet) (flagsIn sheet) (areaIn sheet) = record { kind-ok = p .kind-ok; flags-ok = p .flags-ok; short = p .short; sound = r .sound } in
+    record {
+      readable = record { octets = area-octets l (j .carried); accepted = clear-read (kindIn sheet) (flagsIn sheet) (areaIn sheet) clear };
+      is = split sheet o (p .marked-is) ∙ rw (r .as-many, j .as-many, r .same-items, j .same-octets);
+    }
+
+-- A sheet is accepted exactly when some readable area has it.
+pub written-exactly : (sheet : List ℕ) → Octets sheet → judged sheet ≡ none ↔ Writable sheet
+written-exactly sheet o = (there, back)
+  where
+    there : judged sheet ≡ none → Writable sheet
+    there e =
+        let a = accepted-sheet sheet o e in
+        record { kind = kindIn sheet; flags = flagsIn sheet; area = areaIn sheet; readable = a .readable; has = a .is }
+
+    back : Writable sheet → judged sheet ≡ none
+    back w = ap judged (w .has) ∙ sheet-goes-back (w .kind) (w .flags) (w .area) (w .readable) .accepted
+
+-- Two readable areas with one sheet are the same, and so are their kinds and flags.
+pub one-area : (k f : ℕ) (a : List ℕ) (k′ f′ : ℕ) (a′ : List ℕ) → Readable k f a → Readable k′ f′ a′ → sheetOf k f a ≡ sheetOf k′ f′ a′ → (k ≡ k′) × (f ≡ f′) × (a ≡ a′)
+one-area k f a k′ f′ a′ r r′ e =
+    let s = sheet-goes-back k f a r in
+    let s′ = sheet-goes-back k′ f′ a′ r′ in
+    (sym (s .kind-is) ∙ ap kindIn e ∙ s′ .kind-is, sym (s .flags-is) ∙ ap flagsIn e ∙ s′ .flags-is, sym (s .area-is) ∙ ap areaIn e ∙ s′ .area-is)
