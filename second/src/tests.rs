@@ -16,6 +16,8 @@ mod text;
 mod areas;
 #[path = "tests/ask.rs"]
 mod ask;
+#[path = "tests/batches.rs"]
+mod batches;
 #[path = "tests/framed.rs"]
 mod framed;
 #[path = "tests/judge.rs"]
@@ -46,5 +48,6 @@ fn main() {
     framed::run(&mut tally);
     areas::run(&mut tally);
     sheets::run(&mut tally);
+    batches::run(&mut tally);
     println!("second: all {} cases passed", tally.cases());
 }

@@ -14,7 +14,7 @@ use Rattle.meaning.specs.Framing.{isPlain}
 use Rattle.meaning.specs.Shapes.{Shape, number, address, digits, hexadecimal, qos, hexDigit, anyOctet, decimalDigit, atLeast, exactly, blocks, free, shapeOf, release, meets}
 use Rattle.meaning.specs.Sheet.{formOf, storedOf, valueOf, decodes, form, stored, count, storedLength, valueIn}
 use Rattle.meaning.proofs.Packing.{Hexes, digits-hexes, hexes-octets, values-length, pack-length, text-values, text-back, text-back-even}
-use Rattle.meaning.proofs.Tests.{both-left, both-right, either, passes, same-one}
+use Rattle.meaning.proofs.Tests.{parts, either, passes, same-one}
 
 -- ---- Only-form
 
@@ -57,11 +57,11 @@ record Released (a b n : ℕ) (v : List ℕ) : Type 0 where
 
 released : (a b n : ℕ) (v : List ℕ) → T (release a b n v) → Released a b n v
 released a b n v t =
-    let u : T (eqb (length v) (3 + n) && all isHex (drop 3 v)) = both-right (same (take 3 v) (a ∷ b ∷ 45 ∷ [])) _ t in
+    let u : T (eqb (length v) (3 + n) && all isHex (drop 3 v)) = parts (same (take 3 v) (a ∷ b ∷ 45 ∷ [])) _ t .1 in
     record {
-      front = same-one (take 3 v) (a ∷ b ∷ 45 ∷ []) (both-left (same (take 3 v) (a ∷ b ∷ 45 ∷ [])) (eqb (length v) (3 + n) && all isHex (drop 3 v)) t);
-      long = eqb→eq (length v) (3 + n) (both-left (eqb (length v) (3 + n)) (all isHex (drop 3 v)) u);
-      hexes = both-right (eqb (length v) (3 + n)) (all isHex (drop 3 v)) u;
+      front = same-one (take 3 v) (a ∷ b ∷ 45 ∷ []) (parts (same (take 3 v) (a ∷ b ∷ 45 ∷ [])) (eqb (length v) (3 + n) && all isHex (drop 3 v)) t .0);
+      long = eqb→eq (length v) (3 + n) (parts (eqb (length v) (3 + n)) (all isHex (drop 3 v)) u .0);
+      hexes = parts (eqb (length v) (3 + n)) (all isHex (drop 3 v)) u .1;
     }
 
 released-octets : (a b n : ℕ) (v : List ℕ) → a < 256 → b < 256 → Released a b n v → Octets v
@@ -96,16 +96,16 @@ pub value-back : (s : Shape) (v : List ℕ) (c : ℕ) → T (leb 2 (formOf s)) �
 unfolding formOf meets valueOf storedOf
 value-back number v c f t e = refl
 value-back address v c f t e = refl
-value-back (digits a b) v c f t e = rw (e refl) (text-back v (digits-hexes v (both-right (between a b (length v)) (all isDigit v) t)))
+value-back (digits a b) v c f t e = rw (e refl) (text-back v (digits-hexes v (parts (between a b (length v)) (all isDigit v) t .1)))
 value-back hexadecimal v c f t e =
-    text-back-even v 8 (eqb→eq (length v) 16 (both-left (eqb (length v) 16) (all isHex v) t)) (both-right (eqb (length v) 16) (all isHex v) t)
+    text-back-even v 8 (eqb→eq (length v) 16 (parts (eqb (length v) 16) (all isHex v) t .0)) (parts (eqb (length v) 16) (all isHex v) t .1)
 value-back qos v c f t e =
     ⊎-elim (λ u. qos-back 57 56 3 v refl refl (omega arith) (released 57 56 6 v u) c)
     (λ u. qos-back 57 57 11 v refl refl (omega arith) (released 57 57 22 v u) c)
     (either (release 57 56 6 v) (release 57 57 22 v) t)
-value-back hexDigit v c f t e = text-values v (both-right (eqb (length v) 1) (all isHex v) t)
+value-back hexDigit v c f t e = text-values v (parts (eqb (length v) 1) (all isHex v) t .1)
 value-back anyOctet v c f t e = refl
-value-back decimalDigit v c f t e = text-values v (digits-hexes v (both-right (eqb (length v) 1) (all isDigit v) t))
+value-back decimalDigit v c f t e = text-values v (digits-hexes v (parts (eqb (length v) 1) (all isDigit v) t .1))
 value-back (atLeast n) v c f t e = absurd f
 value-back (exactly n) v c f t e = absurd f
 value-back blocks v c f t e = absurd f
@@ -153,15 +153,15 @@ value-octets : (s : Shape) (v : List ℕ) → T (meets s v) → Octets (storedOf
 unfolding meets storedOf
 value-octets number v t o = o
 value-octets address v t o = o
-value-octets (digits a b) v t o = hexes-octets v (digits-hexes v (both-right (between a b (length v)) (all isDigit v) t))
-value-octets hexadecimal v t o = hexes-octets v (both-right (eqb (length v) 16) (all isHex v) t)
+value-octets (digits a b) v t o = hexes-octets v (digits-hexes v (parts (between a b (length v)) (all isDigit v) t .1))
+value-octets hexadecimal v t o = hexes-octets v (parts (eqb (length v) 16) (all isHex v) t .1)
 value-octets qos v t o =
     ⊎-elim (λ u. released-octets 57 56 6 v (omega arith) (omega arith) (released 57 56 6 v u))
     (λ u. released-octets 57 57 22 v (omega arith) (omega arith) (released 57 57 22 v u))
     (either (release 57 56 6 v) (release 57 57 22 v) t)
-value-octets hexDigit v t o = hexes-octets v (both-right (eqb (length v) 1) (all isHex v) t)
+value-octets hexDigit v t o = hexes-octets v (parts (eqb (length v) 1) (all isHex v) t .1)
 value-octets anyOctet v t o = o
-value-octets decimalDigit v t o = hexes-octets v (digits-hexes v (both-right (eqb (length v) 1) (all isDigit v) t))
+value-octets decimalDigit v t o = hexes-octets v (digits-hexes v (parts (eqb (length v) 1) (all isDigit v) t .1))
 value-octets (atLeast n) v t o = o
 value-octets (exactly n) v t o = o
 value-octets blocks v t o = o
@@ -187,8 +187,8 @@ either-way n v = go (leb 2 (formOf (shapeOf n)) && meets (shapeOf n) v) refl
     go : (b : Bool) → leb 2 (formOf (shapeOf n)) && meets (shapeOf n) v ≡ b → Decoded n v ⊎ Plainly n v
     go true e =
         inl (record {
-          own = both-left (leb 2 (formOf (shapeOf n))) (meets (shapeOf n) v) (passes _ e);
-          met = both-right (leb 2 (formOf (shapeOf n))) (meets (shapeOf n) v) (passes _ e);
+          own = parts (leb 2 (formOf (shapeOf n))) (meets (shapeOf n) v) (passes _ e) .0;
+          met = parts (leb 2 (formOf (shapeOf n))) (meets (shapeOf n) v) (passes _ e) .1;
           form-is = rw e;
           stored-is = rw e;
         })

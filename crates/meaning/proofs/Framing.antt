@@ -12,7 +12,8 @@ use lib.Seq.{length-take-le, take-take, take-at, drop-at, take-append-le}
 use Rattle.meaning.specs.Octets.{Octets, numberOf}
 use Rattle.meaning.specs.Framing.{gpp, isPlain, Found, attribute, refused, nothing, oneSub, vendorFound, found}
 use Rattle.meaning.specs.Sheet.{attributeOctets, carries}
-use Rattle.meaning.proofs.Tests.{both-left, both-right, is-true}
+use Rattle.meaning.proofs.Tests.{parts, is-true}
+use Rattle.meaning.proofs.Octets.{octet-at}
 use Rattle.meaning.proofs.Numbers.{number-one}
 
 -- What is known of an attribute found at the front of d.
@@ -100,11 +101,6 @@ gpp-octets k (a ∷ b ∷ c ∷ d ∷ s ∷ x ∷ q) o h e m =
     let ec : c ≡ 40 = cc in
     let ed : d ≡ 175 = cc in
     rw (le-ltb (gpp s) 256 (omega arith), n, six, back, ea, eb, ec, ed, m)
-
-octet-at : (l : List ℕ) (i : ℕ) → Octets l → getD l i 0 < 256
-octet-at [] i o = omega arith
-octet-at (x ∷ l) zero o = o .0
-octet-at (x ∷ l) (suc i) o = octet-at l i (o .1)
 
 vendor-found : (n : ℕ) (r : List ℕ) → Octets r → 2 ≤ n → n < 256 → n ≤ length r + 2 → FoundIn (26 ∷ n ∷ r) (vendorFound n r)
 unfolding vendorFound oneSub
@@ -196,10 +192,10 @@ carried-found n v rest c = go (isPlain n) refl
     plain p false e t = plain-back v rest n e
     plain p true e t =
         let q : n ≡ 26 = eqb-true n 26 e in
-        let u : T (leb 5 (length v) && not (eqb (numberOf (take 4 v)) 10415)) = both-right (leb (length v) 253) (leb 5 (length v) && not (eqb (numberOf (take 4 v)) 10415)) t in
+        let u : T (leb 5 (length v) && not (eqb (numberOf (take 4 v)) 10415)) = parts (leb (length v) 253) (leb 5 (length v) && not (eqb (numberOf (take 4 v)) 10415)) t .1 in
         rw q
-        (other-back v rest (leb→le 5 (length v) (both-left (leb 5 (length v)) (not (eqb (numberOf (take 4 v)) 10415)) u))
-        (not-true (eqb (numberOf (take 4 v)) 10415) (is-true (not (eqb (numberOf (take 4 v)) 10415)) (both-right (leb 5 (length v)) (not (eqb (numberOf (take 4 v)) 10415)) u))))
+        (other-back v rest (leb→le 5 (length v) (parts (leb 5 (length v)) (not (eqb (numberOf (take 4 v)) 10415)) u .0))
+        (not-true (eqb (numberOf (take 4 v)) 10415) (is-true (not (eqb (numberOf (take 4 v)) 10415)) (parts (leb 5 (length v)) (not (eqb (numberOf (take 4 v)) 10415)) u .1))))
 
     go : (b : Bool) → isPlain n ≡ b → found (cond b (n ∷ (length v + 2) ∷ v) (26 ∷ (length v + 8) ∷ 0 ∷ 0 ∷ 40 ∷ 175 ∷ (n - 256) ∷ (length v + 2) ∷ v) ++ rest) ≡ attribute n (cond b 2 8) (length (cond b (n ∷ (length v + 2) ∷ v) (26 ∷ (length v + 8) ∷ 0 ∷ 0 ∷ 40 ∷ 175 ∷ (n - 256) ∷ (length v + 2) ∷ v)))
     go true p = plain p (eqb n 26) refl (plain-lines n v p c) ∙ ap (attribute n 2) two

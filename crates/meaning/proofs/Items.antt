@@ -14,7 +14,8 @@ use Rattle.meaning.specs.Octets.{Octets, same}
 use Rattle.meaning.specs.Framing.{gpp, isPlain}
 use Rattle.meaning.specs.Shapes.{shapeOf, plainShape, meets}
 use Rattle.meaning.specs.Sheet.{typeOf, subOf, formOf, decodes, form, stored, count, item, carries, numberIn, valueIn, storedLength, Entered, holds, refused, judgedItem, wholeItem, entered}
-use Rattle.meaning.proofs.Tests.{both, both-left, both-right, is-true, passes, same-one, same-itself}
+use Rattle.meaning.proofs.Tests.{both, parts, is-true, passes, same-one, same-itself}
+use Rattle.meaning.proofs.Octets.{octet-at}
 use Rattle.meaning.proofs.Forms.{announced, stands-for, either-way}
 
 form-26 : (v : List ℕ) → form 26 v ≡ 0
@@ -80,8 +81,8 @@ judged-holds n v it n′ v′ size e = go (carries n v && same (item n v) it) re
         record {
           number-is = en;
           size-is = cc;
-          carried = both-left (carries n′ v′) (same (item n′ v′) it) t;
-          same-octets = same-one (item n′ v′) it (both-right (carries n′ v′) (same (item n′ v′) it) t);
+          carried = parts (carries n′ v′) (same (item n′ v′) it) t .0;
+          same-octets = same-one (item n′ v′) it (parts (carries n′ v′) (same (item n′ v′) it) t .1);
         }
     go false q e = absurd (let z : _≡_ {A = ℕ} 0 1 = cc in omega arith)
 
@@ -91,11 +92,6 @@ number-low t s f h g = go (eqb t 26 && not (eqb f 0))
     go : (b : Bool) → cond b (gpp s) t < 512
     go true = omega arith
     go false = omega arith
-
-octet-at : (l : List ℕ) (i : ℕ) → Octets l → getD l i 0 < 256
-octet-at [] i o = omega arith
-octet-at (x ∷ l) zero o = o .0
-octet-at (x ∷ l) (suc i) o = octet-at l i (o .1)
 
 -- What is accepted at the front is the item of what it holds.
 pub entered-holds : (l : List ℕ) (n : ℕ) (v : List ℕ) (size : ℕ) → Octets l → entered l ≡ holds n v size → Accepted l n v size

@@ -7,7 +7,7 @@ use native.Mathlib.Omega.{arith}
 use lib.Dec.{T, leb, leb→le, nleb→lt, le→leb}
 use borrow.Author.Tests.{le-leb, lt-leb, leb-true, leb-false}
 use lib.ListN.{length, length-map}
-use Rattle.meaning.proofs.Tests.{both-left, both-right, both}
+use Rattle.meaning.proofs.Tests.{parts, both}
 use Rattle.meaning.specs.Octets.{between, all, Octets, pack, unpack, packedLength, isDigit, isHex, digitValue, digitText, values, text}
 
 -- each is a half octet
@@ -121,8 +121,8 @@ digit-hex x t = go (isDigit x) (between 65 70 x) t
 pub digits-hexes : (v : List ℕ) → T (all isDigit v) → Hexes v
 digits-hexes [] t = tt
 digits-hexes (x ∷ v) t =
-    both (isHex x) (all isHex v) (digit-hex x (both-left (isDigit x) (all isDigit v) t))
-    (digits-hexes v (both-right (isDigit x) (all isDigit v) t))
+    both (isHex x) (all isHex v) (digit-hex x (parts (isDigit x) (all isDigit v) t .0))
+    (digits-hexes v (parts (isDigit x) (all isDigit v) t .1))
 
 pub values-length : (v : List ℕ) → length (values v) ≡ length v
 unfolding values
@@ -132,15 +132,15 @@ pub values-halves : (v : List ℕ) → Hexes v → Halves (values v)
 unfolding values
 values-halves [] t = tt
 values-halves (x ∷ v) t =
-    (hex-low x (both-left (isHex x) (all isHex v) t), values-halves v (both-right (isHex x) (all isHex v) t))
+    (hex-low x (parts (isHex x) (all isHex v) t .0), values-halves v (parts (isHex x) (all isHex v) t .1))
 
 -- The text comes back.
 pub text-values : (v : List ℕ) → Hexes v → text (values v) ≡ v
 unfolding text values
 text-values [] t = refl
 text-values (x ∷ v) t =
-    rw (hex-back x (both-left (isHex x) (all isHex v) t))
-    (ap (λ (l : List ℕ). x ∷ l) (text-values v (both-right (isHex x) (all isHex v) t)))
+    rw (hex-back x (parts (isHex x) (all isHex v) t .0))
+    (ap (λ (l : List ℕ). x ∷ l) (text-values v (parts (isHex x) (all isHex v) t .1)))
 
 hex-octet : (x : ℕ) → T (isHex x) → x < 256
 hex-octet x t = let h = hex-low x t in let e = hex-back x t in go (leb (digitValue x) 9) e
@@ -152,7 +152,7 @@ hex-octet x t = let h = hex-low x t in let e = hex-back x t in go (leb (digitVal
 pub hexes-octets : (v : List ℕ) → Hexes v → Octets v
 hexes-octets [] t = tt
 hexes-octets (x ∷ v) t =
-    (hex-octet x (both-left (isHex x) (all isHex v) t), hexes-octets v (both-right (isHex x) (all isHex v) t))
+    (hex-octet x (parts (isHex x) (all isHex v) t .0), hexes-octets v (parts (isHex x) (all isHex v) t .1))
 
 -- A text of digits comes back from the octets it is packed in.
 pub text-back : (v : List ℕ) → Hexes v → text (unpack (length v) (pack (values v))) ≡ v

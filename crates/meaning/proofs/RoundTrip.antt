@@ -15,10 +15,11 @@ use Rattle.meaning.specs.Framing.{isPlain, Attribute, Found, attribute, 
 use Rattle.meaning.specs.Refusals.{Refusal, none, refusal, fault}
 use Rattle.meaning.specs.Sheet.{item, itemsOf, attributeOctets, areaOf, carries, Entered, holds, entered, onItem, items}
 use Rattle.meaning.proofs.Walks.{from-attribute}
+use Rattle.meaning.proofs.Octets.{octets-take, octets-drop}
 use Rattle.meaning.proofs.Framing.{Framed, FoundIn, found-in, carried-found, carried-value, headOf, plain-lines, gpp-lines}
 use Rattle.meaning.proofs.Forms.{octets-from-stored}
 use Rattle.meaning.proofs.Items.{Accepted, item-entered, entered-holds}
-use Rattle.meaning.proofs.Tests.{both-left}
+use Rattle.meaning.proofs.Tests.{parts}
 
 -- An attribute whose number and value a readable attribute carries.
 pub record Carried (a : Attribute) : Type 0 where
@@ -29,20 +30,6 @@ pub record Carried (a : Attribute) : Type 0 where
 abbrev pub All : (Attribute → Type 0) → List Attribute → Type 0
 All P [] = Unit {0}
 All P (a ∷ l) = P a × All P l
-
-pub octets-take : (k : ℕ) (l : List ℕ) → Octets l → Octets (take k l)
-octets-take zero l o = tt
-octets-take (suc k) [] o = tt
-octets-take (suc k) (x ∷ l) o = (o .0, octets-take k l (o .1))
-
-pub octets-drop : (k : ℕ) (l : List ℕ) → Octets l → Octets (drop k l)
-octets-drop zero l o = o
-octets-drop (suc k) [] o = tt
-octets-drop (suc k) (x ∷ l) o = octets-drop k l (o .1)
-
-pub octets-append : (l m : List ℕ) → Octets l → Octets m → Octets (l ++ m)
-octets-append [] m o q = q
-octets-append (x ∷ l) m o q = (o .0, octets-append l m (o .1) q)
 
 pub no-refusal : {X : Type 0} (n s : ℕ) → refusal n s ≡ none → X
 no-refusal n s e = absurd (let z : _≡_ {A = ℕ} 0 1 = cc in omega arith)

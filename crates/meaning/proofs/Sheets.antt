@@ -15,10 +15,11 @@ use Rattle.meaning.specs.Jobs.{isKind, areFlags}
 use Rattle.meaning.specs.Framing.{isPlain, Attribute, Walk, from, walkAt, walk, attributes}
 use Rattle.meaning.specs.Refusals.{Refusal, none, refusal, when, first, fault, tooLong, areaRefusal, sheetRefusal}
 use Rattle.meaning.specs.Sheet.{mark, itemsOf, sheetWith, sheetOf, Readable, Writable, attributeOctets, areaOf, carries, items, itemsIn, kindIn, flagsIn, areaIn, marked, judged}
-use Rattle.meaning.proofs.Tests.{both-left, both-right, is-true, passes, same-one}
+use Rattle.meaning.proofs.Tests.{parts, is-true, passes, same-one}
 use Rattle.meaning.proofs.Numbers.{number-back, octets-back}
 use Rattle.meaning.proofs.Framing.{plain-lines, gpp-lines}
-use Rattle.meaning.proofs.RoundTrip.{Carried, All, Walked, walked, Reread, reread, Kept, kept, Judged, judged-items, octets-drop, octets-append, octets-take, no-refusal}
+use Rattle.meaning.proofs.RoundTrip.{Carried, All, Walked, walked, Reread, reread, Kept, kept, Judged, judged-items, no-refusal}
+use Rattle.meaning.proofs.Octets.{octets-take, octets-drop, octets-append}
 
 -- ---- What it takes to be read
 
@@ -127,7 +128,7 @@ attribute-octets a c = go (isPlain (a .number)) refl
     go : (b : Bool) → isPlain n ≡ b → Octets (cond b (n ∷ (length v + 2) ∷ v) (26 ∷ (length v + 8) ∷ 0 ∷ 0 ∷ 40 ∷ 175 ∷ (n - 256) ∷ (length v + 2) ∷ v))
     go true p =
         let h : n < 256 = ltb-true n 256 p in
-        let g : length v ≤ 253 = leb→le (length v) 253 (both-left (leb (length v) 253) _ (plain-lines n v p (c .carried))) in
+        let g : length v ≤ 253 = leb→le (length v) 253 (parts (leb (length v) 253) _ (plain-lines n v p (c .carried)) .0) in
         (h, (omega arith, c .octets))
     go false p =
         let g : length v ≤ 246 = gpp-lines n v p (c .carried) in
@@ -144,8 +145,8 @@ split : (sheet : List ℕ) → Octets sheet → marked sheet ≡ true → sheet 
 unfolding marked
 split sheet o m =
     let t : T (leb 9 (length sheet) && same (take 5 sheet) mark) = passes _ m in
-    let long : 9 ≤ length sheet = leb→le 9 (length sheet) (both-left (leb 9 (length sheet)) (same (take 5 sheet) mark) t) in
-    let front : take 5 sheet ≡ mark = same-one (take 5 sheet) mark (both-right (leb 9 (length sheet)) (same (take 5 sheet) mark) t) in
+    let long : 9 ≤ length sheet = leb→le 9 (length sheet) (parts (leb 9 (length sheet)) (same (take 5 sheet) mark) t .0) in
+    let front : take 5 sheet ≡ mark = same-one (take 5 sheet) mark (parts (leb 9 (length sheet)) (same (take 5 sheet) mark) t .1) in
     let five : 5 < length sheet = omega arith in
     let six : 6 < length sheet = omega arith in
     let two : length (take 2 (drop 7 sheet)) ≡ 2 = length-take-le 2 (drop 7 sheet) (omega (arith, length-drop 7 sheet)) in
@@ -174,8 +175,8 @@ passed sheet e =
     let t : T (isKind (kindIn sheet) && areFlags (flagsIn sheet)) = passes (isKind (kindIn sheet) && areFlags (flagsIn sheet)) (not-false (isKind (kindIn sheet) && areFlags (flagsIn sheet)) (b .0)) in
     record {
       marked-is = not-false (marked sheet) (a .0);
-      kind-ok = is-true _ (both-left (isKind (kindIn sheet)) (areFlags (flagsIn sheet)) t);
-      flags-ok = is-true _ (both-right (isKind (kindIn sheet)) (areFlags (flagsIn sheet)) t);
+      kind-ok = is-true _ (parts (isKind (kindIn sheet)) (areFlags (flagsIn sheet)) t .0);
+      flags-ok = is-true _ (parts (isKind (kindIn sheet)) (areFlags (flagsIn sheet)) t .1);
       sound = c .0;
       short = ltb-false 4076 len (when-is-none (ltb 4076 len) 24 len (c .1));
     }

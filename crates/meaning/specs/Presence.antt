@@ -67,4 +67,4 @@ codeDemands c = eqb c 1
 -- what an entry says of rule 7, with flags and whether 32 is present
 unfoldable pub codeWants : (code flags : ℕ) (named : Bool) → Bool
 codeWants c flags named =
-    (eqb c 4 && class flags) || ((eqb c 5 && pap flags) || ((eqb c 6 && chap flags) || (eqb c 7 && not named)))
+    ((eqb c 5 && pap flags) || ((eqb c 6 && chap flags) || (eqb c 4 && class flags))) || (eqb c 7 && not named)

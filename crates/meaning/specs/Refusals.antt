@@ -1,4 +1,4 @@
--- Document 01, "The refusal book": its numbers with their second numbers, and its two orders. Assumes nothing.
+-- Document 01, "The refusal book": its numbers with their second numbers, and its two orders.
 -- 4 to 8 are found by the framing, 22 and 23 by the items of a sheet; both come here as a walk. Assumes nothing.
 use Prim.Native.Nat.{ℕ}
 use mathlib.Core.Bool.{Bool, true, false, not, _&&_}

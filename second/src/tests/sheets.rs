@@ -11,11 +11,13 @@ use std::collections::BTreeSet;
 const ROOM: usize = 100_000;
 const DAMAGED_SHEETS: usize = 200_000;
 const MADE_UP_SHEETS: usize = 150_000;
+const LONG_SHEETS: usize = 2_000;
 
 pub fn run(tally: &mut Tally) {
     small_items(tally);
     damaged_sheets(tally, &mut Random::from_seed(6));
     made_up_sheets(tally, &mut Random::from_seed(7));
+    long_sheets(tally, &mut Random::from_seed(10));
 }
 
 /// Every item of count 0 or 1 that some attribute gives. Such an item comes from
@@ -186,6 +188,19 @@ fn stored_octet(random: &mut Random, form: u8, at: usize, measure: usize) -> u8 
         6 if at == 0 => random.pick(&[if measure == 4 { 98 } else { 99 }, 98, 99]),
         7 => random.below(20) as u8,
         _ => random.octet(),
+    }
+}
+
+/// Sheets of areas about the limit of 4,076 octets, some of them damaged.
+fn long_sheets(tally: &mut Tally, random: &mut Random) {
+    for _ in 0..LONG_SHEETS {
+        let length = random.between(4_066, 4_086);
+        let pieces = makers::filling(random, length);
+        let mut sheet = judge::sheet(makers::kind(random), 0, &pieces);
+        if random.once_in(4) {
+            damage(random, &mut sheet);
+        }
+        one_sheet(tally, random, &sheet);
     }
 }
 
