@@ -8,12 +8,12 @@ use Prim.Native.Nat.{ℕ, zero, suc, _+_, _*_, _-_, _/_, _%_, _<_, _≤_}
 use native.Mathlib.Omega.{arith}
 use lib.Dec.{T, eqb, leb, ltb, eqb→eq, leb→le}
 use borrow.Author.Tests.{lt-leb, eq-eqb, eqb-true}
-use lib.ListN.{length, take, drop, length-drop}
+use lib.ListN.{length, take, drop, getD, length-drop}
 use Rattle.meaning.specs.Octets.{between, all, same, Octets, isDigit, isHex, digitValue, digitText, values, text, pack, unpack, packedLength}
 use Rattle.meaning.specs.Framing.{isPlain}
 use Rattle.meaning.specs.Shapes.{Shape, number, address, digits, hexadecimal, qos, hexDigit, anyOctet, decimalDigit, atLeast, exactly, blocks, free, shapeOf, release, meets}
 use Rattle.meaning.specs.Sheet.{formOf, storedOf, valueOf, decodes, form, stored, count, storedLength, valueIn}
-use Rattle.meaning.proofs.Packing.{Hexes, digits-hexes, hexes-octets, values-length, pack-length, text-values, text-back, text-back-even}
+use Rattle.meaning.proofs.Packing.{Hexes, digits-hexes, hexes-octets, values-length, pack-length, text-values, text-back, text-back-even, values-halves, halves-octets, packed-octets}
 use Rattle.meaning.proofs.Tests.{parts, either, passes, same-one}
 
 -- ---- Only-form
@@ -74,6 +74,16 @@ released-octets a b n (x ∷ y ∷ z ∷ v) h g r =
     let ey : y ≡ b = cc in
     let ez : z ≡ 45 = cc in
     (omega arith, (omega arith, (omega arith, hexes-octets v (r .hexes))))
+
+release-octet : (a b n : ℕ) (v : List ℕ) → digitValue a < 16 → digitValue b < 16 → Released a b n v → digitValue (getD v 0 0) * 10 + digitValue (getD v 1 0) < 256
+release-octet a b n [] h g r = absurd (omega (arith, r .long))
+release-octet a b n (x ∷ []) h g r = absurd (omega (arith, r .long))
+release-octet a b n (x ∷ y ∷ []) h g r = absurd (omega (arith, r .long))
+release-octet a b n (x ∷ y ∷ z ∷ v) h g r =
+    let e : x ∷ y ∷ z ∷ [] ≡ a ∷ b ∷ 45 ∷ [] = r .front in
+    let ex : x ≡ a = cc in
+    let ey : y ≡ b = cc in
+    rw (ex, ey) (omega arith)
 
 qos-back : (a b k : ℕ) (v : List ℕ) → digitText (digitValue a) ≡ a → digitText (digitValue b) ≡ b → digitValue b < 10 → Released a b (2 * k) v → (c : ℕ) → valueOf qos c (storedOf qos v) ≡ v
 unfolding valueOf storedOf text
@@ -243,3 +253,49 @@ count-le n v = go (eqb (form n v) 4)
 pub octets-from-stored : (n : ℕ) (v : List ℕ) → Octets (stored n v) → Octets v
 octets-from-stored n v o =
     ⊎-elim (λ d. value-octets (shapeOf n) v (d .met) (rw (d .stored-is) at o)) (λ p. rw (p .stored-is) at o) (either-way n v)
+
+-- What is stored of octets is octets.
+shape-octets : (s : Shape) (v : List ℕ) → T (meets s v) → Octets v → Octets (storedOf s v)
+unfolding meets storedOf
+shape-octets number v t o = o
+shape-octets address v t o = o
+shape-octets (digits a b) v t o = packed-octets v (digits-hexes v (parts (between a b (length v)) (all isDigit v) t .1))
+shape-octets hexadecimal v t o = packed-octets v (parts (eqb (length v) 16) (all isHex v) t .1)
+shape-octets qos v t o =
+    ⊎-elim (λ u. (release-octet 57 56 6 v (omega arith) (omega arith) (released 57 56 6 v u), packed-octets (drop 3 v) (released 57 56 6 v u .hexes)))
+    (λ u. (release-octet 57 57 22 v (omega arith) (omega arith) (released 57 57 22 v u), packed-octets (drop 3 v) (released 57 57 22 v u .hexes)))
+    (either (release 57 56 6 v) (release 57 57 22 v) t)
+shape-octets hexDigit v t o = halves-octets (values v) (values-halves v (parts (eqb (length v) 1) (all isHex v) t .1))
+shape-octets anyOctet v t o = o
+shape-octets decimalDigit v t o = halves-octets (values v) (values-halves v (digits-hexes v (parts (eqb (length v) 1) (all isDigit v) t .1)))
+shape-octets (atLeast n) v t o = o
+shape-octets (exactly n) v t o = o
+shape-octets blocks v t o = o
+shape-octets free v t o = o
+
+pub stored-octets : (n : ℕ) (v : List ℕ) → Octets v → Octets (stored n v)
+stored-octets n v o =
+    ⊎-elim (λ d. rw (d .stored-is) (shape-octets (shapeOf n) v (d .met) o)) (λ p. rw (p .stored-is) o) (either-way n v)
+
+own-low : (s : Shape) → formOf s < 8
+unfolding formOf
+own-low number = omega arith
+own-low address = omega arith
+own-low (digits a b) = omega arith
+own-low hexadecimal = omega arith
+own-low qos = omega arith
+own-low hexDigit = omega arith
+own-low anyOctet = omega arith
+own-low decimalDigit = omega arith
+own-low (atLeast n) = omega arith
+own-low (exactly n) = omega arith
+own-low blocks = omega arith
+own-low free = omega arith
+
+raw-low-form : (b : Bool) → cond b 0 1 < 8
+raw-low-form true = omega arith
+raw-low-form false = omega arith
+
+-- The forms are 0 to 7.
+pub form-range : (n : ℕ) (v : List ℕ) → form n v < 8
+form-range n v = ⊎-elim (λ d. rw (d .form-is) (own-low (shapeOf n))) (λ p. rw (p .form-is) (raw-low-form (isPlain n))) (either-way n v)

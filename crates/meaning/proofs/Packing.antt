@@ -164,3 +164,10 @@ pub text-back-even : (v : List ℕ) (k : ℕ) → length v ≡ 2 * k → Hexes v
 text-back-even v k e t =
     let n : 2 * length (pack (values v)) ≡ length v = omega (arith, pack-length (values v), values-length v) in
     ap (λ (m : ℕ). text (unpack m (pack (values v)))) n ∙ text-back v t
+
+pub halves-octets : (l : List ℕ) → Halves l → Octets l
+halves-octets [] h = tt
+halves-octets (a ∷ l) h = let low : a < 16 = h .0 in (omega arith, halves-octets l (h .1))
+
+pub packed-octets : (v : List ℕ) → Hexes v → Octets (pack (values v))
+packed-octets v t = pack-octets (values v) (values-halves v t)

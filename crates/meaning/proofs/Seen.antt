@@ -1,22 +1,56 @@
--- P1 to P10 of document 01, in a single claim over the whole set. Assumes nothing.
-use mathlib.Core.Path.{_≡_, refl}
+-- P1 to P10 of document 01 in a single claim over the whole set: each answer is what the definitions say of it, by the relation where
+-- it is a list. Assumes nothing.
+use mathlib.Core.Path.{_≡_, refl, sym, ap, _∙_}
 use mathlib.Core.List.{List, [], _∷_, map}
-use Prim.Native.Nat.{ℕ}
-use Rattle.meaning.specs.Octets.{numberOf, octetsOf, pack, values}
-use Rattle.meaning.specs.Jobs.{isKind, areFlags}
-use Rattle.meaning.specs.Framing.{walk, walkAt, from, found, vendorFound, oneSub, attributes}
-use Rattle.meaning.specs.Refusals.{fault, areaRefusal, areaOrder}
-use Rattle.meaning.specs.Shapes.{shapeOf, plainShape, gppShape, meets, allowed}
-use Rattle.meaning.specs.Sheet.{formOf, storedOf, decodes, form, stored, count, item, itemsOf, sheetWith, sheetOf}
-use Rattle.meaning.specs.Presence.{notPermitted, mandatory, conditional}
-use Rattle.meaning.specs.Breaches.{entry, misses, offends, onceOnly, barred, chosen, atAttribute, along, atEnd, breaches}
-use Rattle.meaning.specs.Answers.{Answer, readAnswer, checkAnswer, listOf}
-use Rattle.meaning.specs.Seen.{Case, Job, read, check, cases}
+use Prim.Native.Nat.{ℕ, _<_}
+use native.Mathlib.Omega.{arith}
+use lib.Dec.{T, ltb, ltb→lt}
+use Rattle.meaning.specs.Octets.{all, Octets}
+use Rattle.meaning.specs.Refusals.{areaRefusal}
+use Rattle.meaning.specs.Sheet.{sheetOf}
+use Rattle.meaning.specs.Answers.{Answer, given, refused, unless, listOf}
+use Rattle.meaning.specs.Seen.{Job, read, check, Case, cases, Meant}
+use Rattle.meaning.proofs.Tests.{parts}
+use Rattle.meaning.proofs.Computing.{computing}
+use Rattle.meaning.proofs.Answers.{unless-given, unless-refused}
+use Rattle.meaning.proofs.Placed.{list-lists}
 
-abbrev answerTo : Job → Case → Answer (List ℕ)
-answerTo read c = readAnswer (c .kind) (c .flags) (c .area) 8161
-answerTo check c = checkAnswer (c .kind) (c .flags) (c .area) 8161
+-- the answer to a case, given room
+abbrev answerTo : Job → (kind flags : ℕ) → List ℕ → Answer (List ℕ)
+answerTo read kind flags area = unless (areaRefusal kind flags area) (sheetOf kind flags area)
+answerTo check kind flags area = unless (areaRefusal kind flags area) (listOf kind flags area)
 
-pub computed : map (λ (c : Case). answerTo (c .job) c) cases ≡ map (λ (c : Case). c .says) cases
-unfolding numberOf octetsOf pack values isKind areFlags walk walkAt from found vendorFound oneSub attributes fault areaRefusal areaOrder shapeOf plainShape gppShape meets allowed formOf storedOf decodes form stored count item itemsOf sheetWith sheetOf notPermitted mandatory conditional entry misses offends onceOnly barred chosen atAttribute along atEnd breaches readAnswer checkAnswer listOf
+-- a computed answer means what document 01 says
+meant : (job : Job) (kind flags : ℕ) (area : List ℕ) (a : Answer (List ℕ)) → Octets area → answerTo job kind flags area ≡ a → Meant job kind flags area a
+meant read kind flags area (given s) o e =
+    let u = unless-given (areaRefusal kind flags area) (sheetOf kind flags area) s e in
+    (u .0, sym (u .1))
+meant check kind flags area (given l) o e =
+    let u = unless-given (areaRefusal kind flags area) (listOf kind flags area) l e in
+    (u .0, rw (u .1) at (list-lists kind flags area o))
+meant read kind flags area (refused n s) o e = unless-refused (areaRefusal kind flags area) (sheetOf kind flags area) n s e
+meant check kind flags area (refused n s) o e = unless-refused (areaRefusal kind flags area) (listOf kind flags area) n s e
+
+abbrev pub Each : (Case → Type 0) → List Case → Type 0
+Each P [] = Unit {0}
+Each P (c ∷ l) = P c × Each P l
+
+octets-of : (l : List ℕ) → T (all (λ x. ltb x 256) l) → Octets l
+octets-of [] t = tt
+octets-of (x ∷ l) t = let b = parts (ltb x 256) (all (λ x. ltb x 256) l) t in (ltb→lt x 256 (b .0), octets-of l (b .1))
+
+-- the areas of the cases are octets
+areas : Each (λ (c : Case). T (all (λ x. ltb x 256) (c .area))) cases
+areas = (tt, (tt, (tt, (tt, (tt, (tt, (tt, (tt, (tt, (tt, (tt, (tt, (tt, (tt, (tt, tt)))))))))))))))
+
+computed : map (λ (c : Case). answerTo (c .job) (c .kind) (c .flags) (c .area)) cases ≡ map (λ (c : Case). c .says) cases
+unfolding computing
 computed = refl
+
+each : (l : List Case) → Each (λ (c : Case). T (all (λ x. ltb x 256) (c .area))) l → map (λ (c : Case). answerTo (c .job) (c .kind) (c .flags) (c .area)) l ≡ map (λ (c : Case). c .says) l → Each (λ (c : Case). Meant (c .job) (c .kind) (c .flags) (c .area) (c .says)) l
+each [] o e = tt
+each (c ∷ l) o e = (meant (c .job) (c .kind) (c .flags) (c .area) (c .says) (octets-of (c .area) (o .0)) (cc), each l (o .1) (cc))
+
+-- The claim.
+pub seen : Each (λ (c : Case). Meant (c .job) (c .kind) (c .flags) (c .area) (c .says)) cases
+seen = each cases areas computed

@@ -31,15 +31,15 @@ pub record Clear (kind flags : ℕ) (area : List ℕ) : Type 0 where
   pub sound : fault (walk area) ≡ none
 
 -- no line of the book applies where the first of them does not
-when-none : (b : Bool) (n s : ℕ) (r : Refusal) → first (when b n s) r ≡ none → (b ≡ false) × (r ≡ none)
+pub when-none : (b : Bool) (n s : ℕ) (r : Refusal) → first (when b n s) r ≡ none → (b ≡ false) × (r ≡ none)
 when-none true n s r e = no-refusal n s e
 when-none false n s r e = (refl, e)
 
-first-none : (q r : Refusal) → first q r ≡ none → (q ≡ none) × (r ≡ none)
+pub first-none : (q r : Refusal) → first q r ≡ none → (q ≡ none) × (r ≡ none)
 first-none none r e = (refl, e)
 first-none (refusal n s) r e = no-refusal n s e
 
-when-is-none : (b : Bool) (n s : ℕ) → when b n s ≡ none → b ≡ false
+pub when-is-none : (b : Bool) (n s : ℕ) → when b n s ≡ none → b ≡ false
 when-is-none true n s e = no-refusal n s e
 when-is-none false n s e = refl
 

@@ -1,6 +1,12 @@
 -- Document 01, "Seen at the desk": area A and the cases P1 to P10, as data. Assumes nothing.
 use Prim.Native.Nat.{ℕ}
 use mathlib.Core.List.{List, [], _∷_}
+use mathlib.Core.Path.{_≡_}
+use lib.ListN.{length}
+use Rattle.meaning.specs.Framing.{walk, attributes}
+use Rattle.meaning.specs.Refusals.{none, refusal, areaRefusal}
+use Rattle.meaning.specs.Sheet.{sheetOf}
+use Rattle.meaning.specs.Breaches.{Breach, Lists}
 use Rattle.meaning.specs.Answers.{Answer, given, refused}
 
 -- the job of a case
@@ -42,3 +48,11 @@ cases =
     ∷ record { job = read; kind = 1; flags = 3; area = []; says = refused 2 0 }
     ∷ record { job = check; kind = 1; flags = 3; area = []; says = refused 2 0 }
     ∷ []
+
+-- What document 01 says of an answer, given room: a sheet is that of the area, a list has exactly the breaches of its attributes,
+-- and a refusal is the first that applies.
+abbrev pub Meant : Job → (kind flags : ℕ) (area : List ℕ) → Answer (List ℕ) → Type 0
+Meant read kind flags area (given s) = (areaRefusal kind flags area ≡ none) × (s ≡ sheetOf kind flags area)
+Meant check kind flags area (given l) = (areaRefusal kind flags area ≡ none) × Lists l (Breach kind flags (length area) (attributes (walk area)))
+Meant read kind flags area (refused n s) = areaRefusal kind flags area ≡ refusal n s
+Meant check kind flags area (refused n s) = areaRefusal kind flags area ≡ refusal n s

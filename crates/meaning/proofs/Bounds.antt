@@ -1,0 +1,130 @@
+-- Bounds of a sheet: it is never longer than 9 + 2 x area length, its item count fits 16 bits, and it is made of octets, its counts
+-- among them. Assumes nothing.
+use mathlib.Core.Path.{_≡_, refl, sym, ap, _∙_}
+use mathlib.Core.Logic.{inl, inr}
+use mathlib.Core.Bool.{Bool, true, false, cond, _&&_, _||_, not}
+use mathlib.Core.List.{List, [], _∷_, _++_}
+use Prim.Native.Nat.{ℕ, zero, suc, _+_, _*_, _-_, _%_, _<_, _≤_}
+use native.Mathlib.Omega.{arith}
+use lib.Dec.{T, leb, ltb, eqb, leb→le}
+use borrow.Author.Tests.{ltb-true, ltb-false}
+use lib.ListN.{length, take, drop, getD, length-append}
+use Rattle.meaning.specs.Octets.{Octets, numberOf, octetsOf}
+use Rattle.meaning.specs.Jobs.{isKind, areFlags}
+use Rattle.meaning.specs.Framing.{isPlain, Attribute, walkAt, walk, attributes}
+use Rattle.meaning.specs.Sheet.{typeOf, subOf, form, stored, count, item, itemsOf, sheetWith, sheetOf, Readable, attributeOctets, areaOf, carries}
+use Rattle.meaning.specs.Breaches.{Among}
+use Rattle.meaning.proofs.Tests.{parts, passes, in-among}
+use Rattle.meaning.proofs.Octets.{octets-append}
+use Rattle.meaning.proofs.Numbers.{octets-octets, octets-length}
+use Rattle.meaning.proofs.Forms.{stored-le, count-le, stored-octets, form-range}
+use Rattle.meaning.proofs.Framing.{plain-lines, gpp-lines}
+use Rattle.meaning.proofs.RoundTrip.{Carried, All, walked}
+use Rattle.meaning.proofs.Sheets.{Clear, clear, area-long}
+
+-- ---- The length
+
+attribute-length : (n : ℕ) (v : List ℕ) → length v + 2 ≤ length (attributeOctets n v)
+unfolding attributeOctets
+attribute-length n v = go (isPlain n)
+  where
+    go : (b : Bool) → length v + 2 ≤ length (cond b (n ∷ (length v + 2) ∷ v) (26 ∷ (length v + 8) ∷ 0 ∷ 0 ∷ 40 ∷ 175 ∷ (n - 256) ∷ (length v + 2) ∷ v))
+    go true = omega arith
+    go false = omega arith
+
+item-bound : (n : ℕ) (v : List ℕ) → length (item n v) ≤ 2 * length (attributeOctets n v)
+unfolding item
+item-bound n v = omega (arith, stored-le n v, attribute-length n v)
+
+items-bound : (l : List Attribute) → length (itemsOf l) ≤ 2 * length (areaOf l)
+unfolding itemsOf areaOf
+items-bound [] = omega arith
+items-bound (a ∷ l) =
+    omega (arith, items-bound l, item-bound (a .number) (a .value), length-append (item (a .number) (a .value)) (itemsOf l), length-append (attributeOctets (a .number) (a .value)) (areaOf l))
+
+sheet-length : (kind flags : ℕ) (l : List Attribute) → length (sheetWith kind flags l) ≡ 9 + length (itemsOf l)
+unfolding sheetWith octetsOf
+sheet-length kind flags l = omega arith
+
+-- The sheet of a readable area is never longer than 9 + 2 x area length.
+pub sheet-bound : (kind flags : ℕ) (area : List ℕ) → Readable kind flags area → length (sheetOf kind flags area) ≤ 9 + 2 * length area
+unfolding sheetOf walk walkAt
+sheet-bound kind flags area r =
+    let c = clear kind flags area (r .accepted) in
+    let e : areaOf (attributes (walk area)) ≡ area = walked 0 0 area (r .octets) (omega arith) .area-is (c .sound) in
+    omega (arith, sheet-length kind flags (attributes (walk area)), items-bound (attributes (walk area)), ap length e)
+
+-- It has at most 2,038 items, so that their number fits 16 bits.
+pub items-fit : (kind flags : ℕ) (area : List ℕ) → Readable kind flags area → length (attributes (walk area)) ≤ 2038
+unfolding walk walkAt
+items-fit kind flags area r =
+    let c = clear kind flags area (r .accepted) in
+    let e : areaOf (attributes (walk area)) ≡ area = walked 0 0 area (r .octets) (omega arith) .area-is (c .sound) in
+    omega (arith, area-long (attributes (walk area)), ap length e, c .short)
+
+-- ---- The octets
+
+value-short : (a : Attribute) → Carried a → length (a .value) ≤ 253
+value-short a c = go (isPlain (a .number)) refl
+  where
+    go : (b : Bool) → isPlain (a .number) ≡ b → length (a .value) ≤ 253
+    go true p = leb→le (length (a .value)) 253 (parts (leb (length (a .value)) 253) _ (plain-lines (a .number) (a .value) p (c .carried)) .0)
+    go false p = let h : length (a .value) ≤ 246 = gpp-lines (a .number) (a .value) p (c .carried) in omega arith
+
+-- The count of a carried attribute's item fits 8 bits.
+pub count-fits : (a : Attribute) → Carried a → count (a .number) (a .value) < 256
+count-fits a c = omega (arith, count-le (a .number) (a .value), value-short a c)
+
+type-low : (n : ℕ) → typeOf n < 256
+type-low n = go (isPlain n) refl
+  where
+    go : (b : Bool) → isPlain n ≡ b → cond b n 26 < 256
+    go true e = ltb-true n 256 e
+    go false e = omega arith
+
+sub-low : (n : ℕ) → n < 512 → subOf n < 256
+sub-low n h = go (isPlain n)
+  where
+    go : (b : Bool) → cond b 0 (n - 256) < 256
+    go true = omega arith
+    go false = omega arith
+
+form-octet : (n : ℕ) (v : List ℕ) → form n v < 256
+form-octet n v = omega (arith, form-range n v)
+
+-- An item of a carried attribute is made of octets.
+pub item-octets : (a : Attribute) → Carried a → Octets (item (a .number) (a .value))
+unfolding item
+item-octets a c =
+    (type-low (a .number), (sub-low (a .number) (c .low), (form-octet (a .number) (a .value), (count-fits a c, stored-octets (a .number) (a .value) (c .octets)))))
+
+items-octets : (l : List Attribute) → All Carried l → Octets (itemsOf l)
+unfolding itemsOf
+items-octets [] c = tt
+items-octets (a ∷ l) c = octets-append (item (a .number) (a .value)) (itemsOf l) (item-octets a (c .0)) (items-octets l (c .1))
+
+kind-octet : (kind : ℕ) → isKind kind ≡ true → kind < 256
+unfolding isKind
+kind-octet kind e = omega (arith, leb→le kind 6 (parts (leb 1 kind) (leb kind 6) (passes (leb 1 kind && leb kind 6) e) .1))
+
+flags-octet : (flags : ℕ) → areFlags flags ≡ true → flags < 256
+unfolding areFlags
+flags-octet flags e = go (in-among flags (0 ∷ 1 ∷ 2 ∷ 4 ∷ 5 ∷ 6 ∷ []) (passes _ e))
+  where
+    go : Among flags (0 ∷ 1 ∷ 2 ∷ 4 ∷ 5 ∷ 6 ∷ []) → flags < 256
+    go (inl p) = omega arith
+    go (inr (inl p)) = omega arith
+    go (inr (inr (inl p))) = omega arith
+    go (inr (inr (inr (inl p)))) = omega arith
+    go (inr (inr (inr (inr (inl p))))) = omega arith
+    go (inr (inr (inr (inr (inr (inl p)))))) = omega arith
+    go (inr (inr (inr (inr (inr (inr p)))))) = absurd p
+
+-- The sheet of a readable area is made of octets.
+pub sheet-octets : (kind flags : ℕ) (area : List ℕ) → Readable kind flags area → Octets (sheetOf kind flags area)
+unfolding sheetOf sheetWith walk walkAt
+sheet-octets kind flags area r =
+    let c = clear kind flags area (r .accepted) in
+    let w = walked 0 0 area (r .octets) (omega arith) in
+    let l : List Attribute = attributes (walk area) in
+    (omega arith, (omega arith, (omega arith, (omega arith, (omega arith, (kind-octet kind (c .kind-ok), (flags-octet flags (c .flags-ok), octets-append (octetsOf 2 (length l)) (itemsOf l) (octets-octets 2 (length l)) (items-octets l (w .carried)))))))))
