@@ -6,13 +6,14 @@ use Prim.Native.Nat.{ℕ, _≤_}
 use native.Mathlib.Omega.{arith}
 use lib.Dec.{ltb}
 use borrow.Author.Tests.{le-ltb, ltb-false}
-use lib.ListN.{length}
+use lib.ListN.{length, take, drop, length-append, length-drop}
+use lib.Seq.{take-at, drop-at}
 use Rattle.meaning.specs.Octets.{Octets}
 use Rattle.meaning.specs.Framing.{walk, attributes}
 use Rattle.meaning.specs.Refusals.{Refusal, none, refusal, first, tooShort, areaRefusal, areaOrder}
 use Rattle.meaning.specs.Sheet.{sheetOf, Readable, kindIn, flagsIn, areaIn, judged}
 use Rattle.meaning.specs.Breaches.{Breach, Lists}
-use Rattle.meaning.specs.Answers.{Answer, given, refused, unless, readAnswer, checkAnswer, listOf, Written, writeAnswer}
+use Rattle.meaning.specs.Answers.{Answer, given, refused, unless, over, after, readAnswer, checkAnswer, listOf, Written, writeAnswer}
 use Rattle.meaning.proofs.Sheets.{first-none, when-is-none, sheet-goes-back, accepted-sheet}
 use Rattle.meaning.proofs.Rising.{one-list}
 use Rattle.meaning.proofs.Placed.{list-lists}
@@ -97,3 +98,29 @@ written-reads sheet room w o e =
     let f = first-none (judged sheet) (tooShort 25 (length (areaIn sheet)) room) (u .0) in
     let a = accepted-sheet sheet o (f .0) in
     subst (ReadsAs sheet) (u .1) (record { readable = a .readable; is = sym (a .is) })
+
+-- ---- The lent buffer
+
+-- What is written stands at the buffer's start, the rest is as it was, and the buffer stays as long as it was.
+pub record Laid (s d out : List ℕ) : Type 0 where
+  pub start : take (length s) out ≡ s
+  pub rest : drop (length s) out ≡ drop (length s) d
+  pub kept : length out ≡ length d
+
+pub over-laid : (s d : List ℕ) → length s ≤ length d → Laid s d (over s d)
+unfolding over
+over-laid s d h =
+    record {
+      start = take-at s (drop (length s) d) (length s) refl;
+      rest = drop-at s (drop (length s) d) (length s) refl;
+      kept = omega (arith, length-append s (drop (length s) d), length-drop (length s) d);
+    }
+
+-- Success changes what is written; a refusal changes nothing.
+pub after-given : (s d : List ℕ) → length s ≤ length d → Laid s d (after (given s) d)
+unfolding after
+after-given s d h = over-laid s d h
+
+pub after-refused : (n k : ℕ) (d : List ℕ) → after (refused n k) d ≡ d
+unfolding after
+after-refused n k d = refl

@@ -161,6 +161,7 @@ sheets =
     ∷ announces 2 (26 ∷ 12 ∷ 7 ∷ 1 ∷ 10 ∷ 0 ∷ []) (refusal 23 9)
     ∷ announces 1 (0 ∷ 0 ∷ 0 ∷ 0 ∷ 0 ∷ 0 ∷ []) (refusal 22 13)
     ∷ record { sheet = mark ++ 1 ∷ 0 ∷ 7 ∷ 247 ∷ replicate (4 * 2039) 0; says = refusal 24 4078 }
+    ∷ record { sheet = mark ++ 1 ∷ 0 ∷ 7 ∷ 248 ∷ replicate (4 * 2039) 0 ++ 0 ∷ 0 ∷ 9 ∷ 0 ∷ []; says = refusal 23 8165 }
     ∷ record { sheet = sheetA; says = none }
     ∷ []
 
