@@ -42,7 +42,7 @@ items-bound [] = omega arith
 items-bound (a ∷ l) =
     omega (arith, items-bound l, item-bound (a .number) (a .value), length-append (item (a .number) (a .value)) (itemsOf l), length-append (attributeOctets (a .number) (a .value)) (areaOf l))
 
-sheet-length : (kind flags : ℕ) (l : List Attribute) → length (sheetWith kind flags l) ≡ 9 + length (itemsOf l)
+pub sheet-length : (kind flags : ℕ) (l : List Attribute) → length (sheetWith kind flags l) ≡ 9 + length (itemsOf l)
 unfolding sheetWith octetsOf
 sheet-length kind flags l = omega arith
 
@@ -103,11 +103,11 @@ unfolding itemsOf
 items-octets [] c = tt
 items-octets (a ∷ l) c = octets-append (item (a .number) (a .value)) (itemsOf l) (item-octets a (c .0)) (items-octets l (c .1))
 
-kind-octet : (kind : ℕ) → isKind kind ≡ true → kind < 256
+pub kind-octet : (kind : ℕ) → isKind kind ≡ true → kind < 256
 unfolding isKind
 kind-octet kind e = omega (arith, leb→le kind 6 (parts (leb 1 kind) (leb kind 6) (passes (leb 1 kind && leb kind 6) e) .1))
 
-flags-octet : (flags : ℕ) → areFlags flags ≡ true → flags < 256
+pub flags-octet : (flags : ℕ) → areFlags flags ≡ true → flags < 256
 unfolding areFlags
 flags-octet flags e = go (in-among flags (0 ∷ 1 ∷ 2 ∷ 4 ∷ 5 ∷ 6 ∷ []) (passes _ e))
   where

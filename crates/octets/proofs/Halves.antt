@@ -1,0 +1,100 @@
+-- Halves two to an octet, once over the count: what stands at each place. Assumes nothing.
+use mathlib.Core.Path.{_≡_, refl, sym, ap, ap₂, _∙_}
+use mathlib.Core.List.{List, [], _∷_, map}
+use Prim.Native.Nat.{ℕ, zero, suc, _+_, _*_, _%_, _<_, _≤_}
+use native.Mathlib.Omega.{arith}
+use native.Mathlib.Nat.{mod-eq-of-lt}
+use lib.Dec.{T}
+use lib.ListN.{length, take, getD, set, length-map, List·getD-eq-default}
+use lib.Seq.{getD-take, length-take-le}
+use Rattle.meaning.specs.Octets.{all, pack, packedLength, isHex, digitValue, values}
+use Rattle.meaning.proofs.Packing.{Halves, pack-length, values-halves}
+use Rattle.octets.specs.DigitStrings.{halves, heldOf}
+use Rattle.octets.proofs.Overs.{Written, written-more}
+
+-- The octet at a place is the pair of halves from twice the place on; "an odd last low half is 15".
+pub pair-at : (l : List ℕ) (i : ℕ) → i < packedLength (length l) → getD (pack l) i 0 ≡ getD l (2 * i) 15 * 16 + getD l (2 * i + 1) 15
+unfolding pack
+pair-at [] i h = absurd (omega arith)
+pair-at (a ∷ []) zero h = refl
+pair-at (a ∷ []) (suc i) h = absurd (omega arith)
+pair-at (a ∷ b ∷ l) zero h = refl
+pair-at (a ∷ b ∷ l) (suc i) h =
+    let high : 2 * suc i ≡ suc (suc (2 * i)) = omega arith in
+    let low : 2 * suc i + 1 ≡ suc (suc (2 * i + 1)) = omega arith in
+    pair-at l i (omega arith) ∙ rw (low, high)
+
+-- a loop over the octets has written the pairs before i, and writes the next
+pub pair-written : (l d out : List ℕ) (i high low x : ℕ) → Written (pack l) d out i → i < packedLength (length l) → high ≡ getD l (2 * i) 15 → low ≡ getD l (2 * i + 1) 15 → x ≡ high * 16 + low → Written (pack l) d (set out i x) (i + 1)
+pair-written l d out i high low x w h p q r =
+    written-more (pack l) d out i x w (omega (arith, pack-length l)) (r ∙ ap₂ (λ (a b : ℕ). a * 16 + b) p q ∙ sym (pair-at l i h))
+
+map-at : (f : ℕ → ℕ) (l : List ℕ) (k d e : ℕ) → k < length l → getD (map f l) k e ≡ f (getD l k d)
+map-at f [] k d e h = absurd (omega arith)
+map-at f (x ∷ l) zero d e h = refl
+map-at f (x ∷ l) (suc k) d e h = map-at f l k d e (omega arith)
+
+below-16 : (f : ℕ → ℕ) (l : List ℕ) (k : ℕ) → getD (map (λ x. f x % 16) l) k 15 < 16
+below-16 f [] k = omega arith
+below-16 f (x ∷ l) zero = omega arith
+below-16 f (x ∷ l) (suc k) = below-16 f l k
+
+-- ---- The halves of a text
+
+module _ (l : List ℕ) where
+  pub halves-length : length (halves l) ≡ length l
+  unfolding halves
+  halves-length = length-map l (λ x. digitValue x % 16)
+
+  pub halves-packed : length (pack (halves l)) ≡ packedLength (length l)
+  halves-packed = pack-length (halves l) ∙ ap packedLength halves-length
+
+  pub halves-low : (k : ℕ) → getD (halves l) k 15 < 16
+  unfolding halves
+  halves-low k = below-16 digitValue l k
+
+  pub halves-at : (k e : ℕ) → k < length l → getD (halves l) k e ≡ digitValue (getD l k 0) % 16
+  unfolding halves
+  halves-at k e h = map-at (λ x. digitValue x % 16) l k 0 e h
+
+  pub halves-past : (k e : ℕ) → length l ≤ k → getD (halves l) k e ≡ e
+  halves-past k e h = List·getD-eq-default (halves l) e (omega (arith, halves-length))
+
+-- halves are what they are modulo 16
+pub halves-modulo : (l : List ℕ) → Halves l → map (λ x. x % 16) l ≡ l
+halves-modulo [] h = refl
+halves-modulo (x ∷ l) h = rw (mod-eq-of-lt (h .0)) (ap (λ (m : List ℕ). x ∷ m) (halves-modulo l (h .1)))
+
+values-modulo : (l : List ℕ) → halves l ≡ map (λ x. x % 16) (values l)
+unfolding halves values
+values-modulo [] = refl
+values-modulo (x ∷ l) = ap (λ (m : List ℕ). (digitValue x % 16) ∷ m) (values-modulo l)
+
+-- The halves of decimal or hexadecimal digits are what these stand for.
+pub halves-values : (l : List ℕ) → T (all isHex l) → halves l ≡ values l
+halves-values l t = values-modulo l ∙ halves-modulo (values l) (values-halves l t)
+
+-- So the packed halves of such a text are what document 01 stores for it.
+pub halves-as-stored : (l : List ℕ) → T (all isHex l) → pack (halves l) ≡ pack (values l)
+halves-as-stored l t = ap pack (halves-values l t)
+
+-- ---- The digits that octets hold
+
+module _ (n : ℕ) (l : List ℕ) (few : n ≤ length l) where
+  pub held-length : length (heldOf n l) ≡ n
+  unfolding heldOf
+  held-length = length-map (take n l) (λ x. x % 16) ∙ length-take-le n l few
+
+  pub held-packed : length (pack (heldOf n l)) ≡ packedLength n
+  held-packed = pack-length (heldOf n l) ∙ ap packedLength held-length
+
+  pub held-low : (k : ℕ) → getD (heldOf n l) k 15 < 16
+  unfolding heldOf
+  held-low k = below-16 (λ x. x) (take n l) k
+
+  pub held-at : (k : ℕ) → k < n → getD (heldOf n l) k 15 ≡ getD l k 0 % 16
+  unfolding heldOf
+  held-at k h = map-at (λ x. x % 16) (take n l) k 0 15 (omega (arith, length-take-le n l few)) ∙ ap (λ (x : ℕ). x % 16) (getD-take n l k 0 h)
+
+  pub held-past : (k : ℕ) → n ≤ k → getD (heldOf n l) k 15 ≡ 15
+  held-past k h = List·getD-eq-default (heldOf n l) 15 (omega (arith, held-length))

@@ -1,0 +1,6 @@
+pub mod Parts
+pub mod Numbers
+pub mod Overs
+pub mod EachOne
+pub mod Halves
+pub mod DigitStrings

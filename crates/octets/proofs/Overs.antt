@@ -1,0 +1,138 @@
+-- Laws of octets laid over a buffer: from its start, by a loop, and from a place on. Assumes nothing.
+use mathlib.Core.Path.{_≡_, refl, sym, ap, _∙_}
+use mathlib.Core.Bool.{Bool, true, false, cond}
+use mathlib.Core.List.{List, [], _∷_, _++_, append-assoc, append-nil}
+use Prim.Native.Nat.{ℕ, suc, _+_, _-_, _<_, _≤_}
+use native.Mathlib.Numerals.{add-one}
+use native.Mathlib.Omega.{arith}
+use borrow.Author.Tests.{le-leb, lt-leb, leb-true, leb-false}
+use borrow.Rule.Slice.PartMut.{putMid}
+use lib.Dec.{leb}
+use lib.ListN.{length, take, drop, getD, set, length-append, length-take, length-drop, length-set, drop-of-length-le}
+use lib.Seq.{length-take-le, take-length, take-all, take-suc, drop-cons, drop-drop, set-at, append-snoc, take-at, drop-at}
+use Rattle.meaning.specs.Answers.{over}
+use Rattle.octets.specs.Parts.{fitsAt, laidAt, Laid}
+
+pub over-none : (d : List ℕ) → over [] d ≡ d
+unfolding over
+over-none d = refl
+
+pub over-length : (s d : List ℕ) → length s ≤ length d → length (over s d) ≡ length d
+unfolding over
+over-length s d h = simp (length-append, length-drop) (omega arith)
+
+-- what was laid over stands at the start
+pub over-front : (s d : List ℕ) → take (length s) (over s d) ≡ s
+unfolding over
+over-front s d = take-at s (drop (length s) d) (length s) refl
+
+over-snoc : (s d : List ℕ) (x n : ℕ) → length s ≡ n → n < length d → set (over s d) n x ≡ over (s ++ (x ∷ [])) d
+unfolding over
+over-snoc s d x n e h =
+    let g : length (s ++ (x ∷ [])) ≡ suc n = simp length-append (omega arith) in
+    rw (e, g, drop-cons d n 0 h, set-at s _ (drop (suc n) d) x n e, append-snoc s x)
+
+-- ---- By a loop
+
+-- the first i of s are laid over the start of d
+pub record Written (s d out : List ℕ) (i : ℕ) : Type 0 where
+  pub within : i ≤ length s
+  pub room : length s ≤ length d
+  pub kept : length out ≡ length d
+  pub is : out ≡ over (take i s) d
+
+pub written-none : (s d : List ℕ) → length s ≤ length d → Written s d d 0
+written-none s d h = record { within = omega arith; room = h; kept = refl; is = sym (over-none d) }
+
+pub written-more : (s d out : List ℕ) (i x : ℕ) → Written s d out i → i < length s → x ≡ getD s i 0 → Written s d (set out i x) (i + 1)
+written-more s d out i x w h e =
+    record {
+      within = omega arith;
+      room = w .room;
+      kept = length-set out i x ∙ w .kept;
+      is = ap (λ (o : List ℕ). set o i x) (w .is) ∙ over-snoc (take i s) d x i (length-take-le i s (w .within)) (omega (arith, w .room))
+          ∙ ap (λ (t : List ℕ). over t d) (rw (add-one i, take-suc s i 0 h, e));
+    }
+
+pub written-all : (s d out : List ℕ) (i : ℕ) → Written s d out i → length s ≤ i → out ≡ over s d
+written-all s d out i w h = let e : i ≡ length s = omega (arith, w .within) in w .is ∙ rw (e, take-length s)
+
+-- ---- From a place on
+
+-- whether n octets fit, told by the room that is left from the place on
+pub room-none : (at n room : ℕ) → room < at → false ≡ leb (at + n) room
+room-none at n room h = sym (lt-leb (at + n) room (omega arith))
+
+pub room-left : (at n room : ℕ) → at ≤ room → leb n (room - at) ≡ leb (at + n) room
+room-left at n room h = go (leb n (room - at)) refl
+  where
+    go : (b : Bool) → leb n (room - at) ≡ b → b ≡ leb (at + n) room
+    go true e = let k : n ≤ room - at = leb-true n (room - at) e in sym (le-leb (at + n) room (omega arith))
+    go false e = let k : room - at < n = leb-false n (room - at) e in sym (lt-leb (at + n) room (omega arith))
+
+-- what the test says
+pub fits-room : (at : ℕ) (s d : List ℕ) → fitsAt at s d ≡ true → at + length s ≤ length d
+unfolding fitsAt
+fits-room at s d e = leb-true (at + length s) (length d) e
+
+pub room-fits : (at : ℕ) (s d : List ℕ) → at + length s ≤ length d → fitsAt at s d ≡ true
+unfolding fitsAt
+room-fits at s d h = le-leb (at + length s) (length d) h
+
+pub laid-fits : (at : ℕ) (s d : List ℕ) → at + length s ≤ length d → laidAt at s d ≡ take at d ++ over s (drop at d)
+unfolding laidAt
+laid-fits at s d h = rw (room-fits at s d h)
+
+-- What does not fit changes nothing.
+pub laid-none : (at : ℕ) (s d : List ℕ) → fitsAt at s d ≡ false → laidAt at s d ≡ d
+unfolding laidAt
+laid-none at s d e = rw e
+
+-- The buffer keeps its length.
+pub laid-length : (at : ℕ) (s d : List ℕ) → length (laidAt at s d) ≡ length d
+unfolding laidAt over
+laid-length at s d = go (fitsAt at s d) refl
+  where
+    go : (b : Bool) → fitsAt at s d ≡ b → length (cond b (take at d ++ over s (drop at d)) d) ≡ length d
+    go true e =
+        let h : at + length s ≤ length d = fits-room at s d e in
+        simp (length-append, length-take, length-drop) (omega arith)
+    go false e = refl
+
+-- At the start it is `over`.
+pub laid-first : (s d : List ℕ) → length s ≤ length d → laidAt 0 s d ≡ over s d
+laid-first s d h = laid-fits 0 s d (omega arith)
+
+-- Laid right behind what a buffer holds already, both stand there, one behind the other.
+pub laid-behind : (s t d held : List ℕ) (at : ℕ) → length s ≡ at → held ≡ over s d → at + length t ≤ length d → laidAt at t held ≡ over (s ++ t) d
+unfolding over
+laid-behind s t d held at n e h =
+    let size : length (over s d) ≡ length d = over-length s d (omega arith) in
+    ap (laidAt at t) e
+    ∙ laid-fits at t (over s d) (omega arith)
+    ∙ rw (take-at s (drop (length s) d) at n, drop-at s (drop (length s) d) at n, drop-drop (length t) (length s) d, length-append s t, append-assoc s t)
+
+-- ---- What a writer at a place answers
+
+-- fit is the test that the n octets of s fit
+module _ (at : ℕ) (s d : List ℕ) (n : ℕ) (fit : Bool) (size : n ≡ length s) (test : fit ≡ leb (at + n) (length d)) where
+  pub laid-room : fit ≡ true → at + n ≤ length d
+  laid-room e = leb-true (at + n) (length d) (sym test ∙ e)
+
+  fit-is : fit ≡ fitsAt at s d
+  unfolding fitsAt
+  fit-is = test ∙ ap (λ (m : ℕ). leb (at + m) (length d)) size
+
+  pub laid-not : fit ≡ false → Laid at s d false d
+  laid-not e = record { says = sym e ∙ fit-is; holds = sym (laid-none at s d (sym fit-is ∙ e)) }
+
+  -- `putMid` is how the borrow checker puts a lent part back: what was laid over the start of the part, said of the whole
+  pub laid-part : (p : List ℕ) → fit ≡ true → p ≡ over s (take (length d - at) (drop at d)) → Laid at s d true (putMid at (length d - at) d p)
+  laid-part p e q =
+      let room : at + n ≤ length d = laid-room e in
+      let all : take (length d - at) (drop at d) ≡ drop at d = take-all (length d - at) (drop at d) (omega (arith, length-drop at d)) in
+      let none : drop (length d - at) (drop at d) ≡ [] = drop-of-length-le (drop at d) {i = length d - at} (omega (arith, length-drop at d)) in
+      record {
+        says = sym e ∙ fit-is;
+        holds = ap (λ (r : List ℕ). take at d ++ r) (ap (λ (r : List ℕ). p ++ r) none ∙ append-nil p ∙ q ∙ ap (over s) all) ∙ sym (laid-fits at s d (omega arith));
+      }

@@ -1,0 +1,50 @@
+-- Laws of a part of octets: its length, and that it holds octets. Assumes nothing.
+use mathlib.Core.Path.{_≡_, sym, ap, _∙_}
+use mathlib.Core.List.{List, []}
+use Prim.Native.Nat.{ℕ, _+_, _-_, _^_, _<_, _≤_, min}
+use native.Mathlib.Nat.{pow-le-pow-right}
+use native.Mathlib.Omega.{arith}
+use lib.ListN.{length, take, drop, length-take, length-drop, drop-of-length-le}
+use lib.Seq.{take-all, take-nil}
+use Rattle.meaning.specs.Octets.{Octets}
+use Rattle.meaning.proofs.Octets.{octets-take, octets-drop}
+use Rattle.octets.specs.Parts.{partOf}
+
+-- a part is no longer than was asked for, nor than what there is
+pub part-length : (l : List ℕ) (at n : ℕ) → length (partOf l at n) ≡ min n (length l - at)
+unfolding partOf
+part-length l at n = length-take n (drop at l) ∙ ap (min n) (length-drop at l)
+
+pub part-within : (l : List ℕ) (at n : ℕ) → at + n ≤ length l → length (partOf l at n) ≡ n
+part-within l at n h = part-length l at n ∙ omega arith
+
+pub part-at-most : (l : List ℕ) (at n : ℕ) → length (partOf l at n) ≤ n
+part-at-most l at n = omega (arith, part-length l at n)
+
+-- past the end there is nothing
+pub part-past : (l : List ℕ) (at n : ℕ) → length l ≤ at → partOf l at n ≡ []
+unfolding partOf
+part-past l at n h = ap (take n) (drop-of-length-le l h) ∙ take-nil n
+
+-- where more is asked for than there is, it is the rest
+pub part-rest : (l : List ℕ) (at n : ℕ) → length l - at ≤ n → partOf l at n ≡ drop at l
+unfolding partOf
+part-rest l at n h = take-all n (drop at l) (omega (arith, length-drop at l))
+
+pub part-to-end : (l : List ℕ) (at n : ℕ) → length l - at ≤ n → take (length l - at) (drop at l) ≡ partOf l at n
+part-to-end l at n h = take-all (length l - at) (drop at l) (omega (arith, length-drop at l)) ∙ sym (part-rest l at n h)
+
+-- from the first octet on, as long as the whole, it is the whole
+pub part-whole : (l : List ℕ) → partOf l 0 (length l) ≡ l
+part-whole l = part-rest l 0 (length l) (omega arith)
+
+-- a part of octets holds octets
+pub part-octets : (l : List ℕ) (at n : ℕ) → Octets l → Octets (partOf l at n)
+unfolding partOf
+part-octets l at n o = octets-take n (drop at l) (octets-drop at l o)
+
+-- a number as wide as a part is no wider than was asked for
+pub part-narrows : (l p : List ℕ) (at w r : ℕ) → p ≡ partOf l at w → r < 256 ^ length p → r < 256 ^ w
+part-narrows l p at w r e h =
+    let q : 256 ^ length p ≤ 256 ^ w = pow-le-pow-right {n = 256} (omega arith) (omega (arith, ap length e, part-at-most l at w)) in
+    omega arith

@@ -1,0 +1,46 @@
+-- "A digit string is at most fifteen digits together with their count": read from a text, and packed two to an octet.
+-- Assumes nothing.
+use Prim.Native.Nat.{ℕ, _%_, min}
+use mathlib.Core.Bool.{true, false, cond, _&&_}
+use mathlib.Core.List.{List, [], map}
+use lib.ListN.{length, take, replicate}
+use Rattle.meaning.specs.Octets.{between, all, isDigit, digitValue, values, pack, packedLength}
+use Rattle.meaning.specs.Answers.{over}
+use Rattle.octets.specs.declared.Digits.{Digits}
+use Rattle.octets.specs.declared.Got.{Got}
+use Rattle.octets.specs.declared.Packed.{Packed}
+
+-- what the octets of a text stand for as digits, each taken modulo 16
+unfoldable pub halves : List ℕ → List ℕ
+halves = map (λ x. digitValue x % 16)
+
+-- octets with zeros behind them, to a width
+unfoldable pub padded : (width : ℕ) → List ℕ → List ℕ
+padded w l = over l (replicate w 0)
+
+-- so many digits, by their values
+unfoldable pub digitsOf : List ℕ → Digits
+digitsOf l = record { octets = padded 15 l; len = length l }
+
+-- what is got of a text that is no digit string
+unfoldable pub noDigits : Got
+noDigits = record { ok = false; digits = digitsOf [] }
+
+-- the digits of a text of 1 to 15 decimal digits; none of any other
+unfoldable pub gotOf : List ℕ → Got
+gotOf l =
+    cond (between 1 15 (length l) && all isDigit l)
+    (record { ok = true; digits = digitsOf (values l) })
+    noDigits
+
+-- the first n digits that octets hold, each taken modulo 16
+unfoldable pub heldOf : (n : ℕ) → List ℕ → List ℕ
+heldOf n l = map (λ x. x % 16) (take n l)
+
+-- digits two to an octet, with zeros behind them; fifteen at most, whatever the count says
+unfoldable pub packedOf : Digits → Packed
+packedOf d =
+    record {
+      octets = padded 8 (pack (heldOf (min (d .len) 15) (d .octets)));
+      len = packedLength (min (d .len) 15);
+    }

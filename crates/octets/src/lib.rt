@@ -1,0 +1,348 @@
+// Octets, as document 01 takes them for granted: parts of a slice, numbers with the high octet first, octets laid over a
+// buffer, digit strings, and digits two to an octet. Each public function takes any arguments.
+ghost use mathlib.Core.Path.{_≡_};
+ghost use Prim.Native.Nat.{_+_, _*_, _%_, _<_, _≤_, min};
+ghost use lib.Dec.{leb};
+ghost use lib.ListN.{length, getD};
+ghost use Rattle.meaning.specs.Octets.{all, numberOf, octetsOf, pack, packedLength, isDigit, isHex, digitValue};
+ghost use Rattle.meaning.specs.Answers.{over};
+ghost use Rattle.octets.specs.Parts.{partOf, Numbered, Laid};
+ghost use Rattle.octets.specs.DigitStrings.{halves, padded, heldOf, noDigits, gotOf, packedOf};
+
+// "at most fifteen digits together with their count": the digits' values, with zeros behind them.
+pub struct Digits {
+    pub octets: [u8; 15],
+    pub len: usize,
+}
+
+// The digits of a text, where it is a digit string.
+pub struct Got {
+    pub ok: bool,
+    pub digits: Digits,
+}
+
+// Digits two to an octet, with zeros behind them.
+pub struct Packed {
+    pub octets: [u8; 8],
+    pub len: usize,
+}
+
+// An octet as a number.
+pub fn wide(x: u8) -> usize
+    ensures { λ r. ⌜ r ≡ x ⌝ }
+{
+    x as usize
+}
+
+// The `len` octets of `s` from `at` on, or as many of them as `s` has.
+pub fn part(s: &[u8], at: usize, len: usize) -> &[u8]
+    ensures { λ r. ⌜ now r ≡ partOf (now (s .entry)) at len ⌝ }
+{
+    if s.len() <= at {
+        return &s[..0];
+    }
+    if s.len() - at <= len {
+        return &s[at..];
+    }
+    let end = at + len;
+    &s[at..end]
+}
+
+// The number that the octets of `s` stand for, at every width to 64 bits.
+fn number(s: &[u8]) -> u64
+    requires { ⌜ length (now s) ≤ 8 ⌝ }
+    ensures { λ r. ⌜ Numbered (now (s .entry)) r ⌝ }
+{
+    let mut n: u64 = 0;
+    let mut i: usize = 0;
+    while i < s.len() {
+        n = n * 256 + wide(s[i]) as u64;
+        i += 1;
+    }
+    n
+}
+
+// The 16-bit number at a place.
+pub fn u16_at(s: &[u8], at: usize) -> u16
+    ensures { λ r. ⌜ r ≡ numberOf (partOf (now (s .entry)) at 2) ⌝ }
+{
+    number(part(s, at, 2)) as u16
+}
+
+// The 32-bit number at a place.
+pub fn u32_at(s: &[u8], at: usize) -> u32
+    ensures { λ r. ⌜ r ≡ numberOf (partOf (now (s .entry)) at 4) ⌝ }
+{
+    number(part(s, at, 4)) as u32
+}
+
+// The 64-bit number at a place.
+pub fn u64_at(s: &[u8], at: usize) -> u64
+    ensures { λ r. ⌜ r ≡ numberOf (partOf (now (s .entry)) at 8) ⌝ }
+{
+    number(part(s, at, 8))
+}
+
+// Fills `out` with the octets of `n`, at every width, beginning with the low octet at its end.
+fn lay(out: &mut [u8], n: u64)
+    ensures { λ _. ⌜ now (out .exit) ≡ octetsOf (length (now (out .entry))) n ⌝ }
+{
+    let len = out.len();
+    let mut rest = n;
+    let mut done: usize = 0;
+    while done < len {
+        let place = len - 1 - done;
+        out[place] = (rest % 256) as u8;
+        rest = rest / 256;
+        done += 1;
+    }
+}
+
+// A 16-bit number in two octets.
+pub fn u16_octets(n: u16) -> [u8; 2]
+    ensures { λ r. ⌜ r ≡ octetsOf 2 n ⌝ }
+{
+    let mut out = [0u8; 2];
+    lay(&mut out, n as u64);
+    out
+}
+
+// A 32-bit number in four octets.
+pub fn u32_octets(n: u32) -> [u8; 4]
+    ensures { λ r. ⌜ r ≡ octetsOf 4 n ⌝ }
+{
+    let mut out = [0u8; 4];
+    lay(&mut out, n as u64);
+    out
+}
+
+// A 64-bit number in eight octets.
+pub fn u64_octets(n: u64) -> [u8; 8]
+    ensures { λ r. ⌜ r ≡ octetsOf 8 n ⌝ }
+{
+    let mut out = [0u8; 8];
+    lay(&mut out, n);
+    out
+}
+
+// Whether `n` octets fit into `room` octets from the place `at` on.
+fn fits(room: usize, at: usize, n: usize) -> bool
+    ensures { λ r. ⌜ r ≡ leb (at + n) room ⌝ }
+{
+    if room < at {
+        return false;
+    }
+    n <= room - at
+}
+
+// Copies `src` over the start of `buf`.
+fn copy(buf: &mut [u8], src: &[u8])
+    requires { ⌜ length (now src) ≤ length (now buf) ⌝ }
+    ensures { λ _. ⌜ now (buf .exit) ≡ over (now (src .entry)) (now (buf .entry)) ⌝ }
+{
+    let mut i: usize = 0;
+    while i < src.len() {
+        buf[i] = src[i];
+        i += 1;
+    }
+}
+
+// Copies `src` over `buf` from the place `at` on and says true, if it fits; else changes nothing and says false.
+pub fn copy_at(buf: &mut [u8], at: usize, src: &[u8]) -> bool
+    ensures { λ r. ⌜ Laid at (now (src .entry)) (now (buf .entry)) r (now (buf .exit)) ⌝ }
+{
+    if !fits(buf.len(), at, src.len()) {
+        return false;
+    }
+    copy(&mut buf[at..], src);
+    true
+}
+
+// Whether `x` is a decimal digit.
+pub fn is_digit(x: u8) -> bool
+    ensures { λ r. ⌜ r ≡ isDigit x ⌝ }
+{
+    (b'0' <= x) & (x <= b'9')
+}
+
+// Whether `x` is a hexadecimal digit; "hexadecimal letters are upper case only".
+pub fn is_hex(x: u8) -> bool
+    ensures { λ r. ⌜ r ≡ isHex x ⌝ }
+{
+    is_digit(x) | ((b'A' <= x) & (x <= b'F'))
+}
+
+// What a decimal or hexadecimal digit stands for, `A` for 10; some number for any other octet.
+pub fn digit_value(x: u8) -> u8
+    ensures { λ r. ⌜ r ≡ digitValue x ⌝ }
+{
+    if b'9' < x {
+        return x - 55;
+    }
+    if x < b'0' {
+        return 0;
+    }
+    x - b'0'
+}
+
+// The same, below 16 for every octet.
+pub fn half_of(x: u8) -> u8
+    ensures { λ r. ⌜ r ≡ digitValue x % 16 ⌝ }
+{
+    digit_value(x) % 16
+}
+
+// Whether every octet of `s` is a decimal digit.
+pub fn all_digits(s: &[u8]) -> bool
+    ensures { λ r. ⌜ r ≡ all isDigit (now (s .entry)) ⌝ }
+{
+    let mut i: usize = 0;
+    while i < s.len() {
+        if !is_digit(s[i]) {
+            return false;
+        }
+        i += 1;
+    }
+    true
+}
+
+// Whether every octet of `s` is a hexadecimal digit.
+pub fn all_hex(s: &[u8]) -> bool
+    ensures { λ r. ⌜ r ≡ all isHex (now (s .entry)) ⌝ }
+{
+    let mut i: usize = 0;
+    while i < s.len() {
+        if !is_hex(s[i]) {
+            return false;
+        }
+        i += 1;
+    }
+    true
+}
+
+// What is got of a text that is no digit string.
+fn none() -> Got
+    ensures { λ r. ⌜ r ≡ noDigits ⌝ }
+{
+    Got {
+        ok: false,
+        digits: Digits {
+            octets: [0u8; 15],
+            len: 0,
+        },
+    }
+}
+
+// The digits of a text of 1 to 15 decimal digits; none of any other.
+pub fn digits_of(text: &[u8]) -> Got
+    ensures { λ r. ⌜ r ≡ gotOf (now (text .entry)) ⌝ }
+{
+    if text.len() < 1 {
+        return none();
+    }
+    if 15 < text.len() {
+        return none();
+    }
+    if !all_digits(text) {
+        return none();
+    }
+    let mut octets = [0u8; 15];
+    let mut i: usize = 0;
+    while i < text.len() {
+        octets[i] = half_of(text[i]);
+        i += 1;
+    }
+    Got {
+        ok: true,
+        digits: Digits { octets, len: i },
+    }
+}
+
+// The octets that `n` halves are packed in: "half the count, rounded up".
+pub fn packed_len(n: usize) -> usize
+    ensures { λ r. ⌜ r ≡ packedLength n ⌝ }
+{
+    n / 2 + n % 2
+}
+
+// Two halves in one octet, the first in the high half.
+fn pair(high: u8, low: u8) -> u8
+    requires { ⌜ (high < 16) × (low < 16) ⌝ }
+    ensures { λ r. ⌜ r ≡ high * 16 + low ⌝ }
+{
+    high * 16 + low
+}
+
+// The smaller of two numbers.
+fn least(a: usize, b: usize) -> usize
+    ensures { λ r. ⌜ r ≡ min a b ⌝ }
+{
+    if a < b { a } else { b }
+}
+
+// The half at `k` of the first `n` digits; "an odd last low half is 15".
+fn digit_at(octets: [u8; 15], n: usize, k: usize) -> u8
+    requires { ⌜ n ≤ 15 ⌝ }
+    ensures { λ r. ⌜ r ≡ getD (heldOf n octets) k 15 ⌝ }
+{
+    if k < n { octets[k] % 16 } else { 15 }
+}
+
+// The first `n` digits two to an octet.
+fn pack_digits(octets: [u8; 15], n: usize) -> [u8; 8]
+    requires { ⌜ n ≤ 15 ⌝ }
+    ensures { λ r. ⌜ r ≡ padded 8 (pack (heldOf n octets)) ⌝ }
+{
+    let len = packed_len(n);
+    let mut out = [0u8; 8];
+    let mut i: usize = 0;
+    while i < len {
+        out[i] = pair(digit_at(octets, n, 2 * i), digit_at(octets, n, 2 * i + 1));
+        i += 1;
+    }
+    out
+}
+
+// The digits two to an octet, of fifteen at most, each modulo 16.
+pub fn packed_of(d: Digits) -> Packed
+    ensures { λ r. ⌜ r ≡ packedOf d ⌝ }
+{
+    let octets = d.octets;
+    let n = least(d.len, 15);
+    Packed {
+        octets: pack_digits(octets, n),
+        len: packed_len(n),
+    }
+}
+
+// The half at `k` of a text; "an odd last low half is 15".
+fn half_at(text: &[u8], k: usize) -> u8
+    ensures { λ r. ⌜ r ≡ getD (halves (now (text .entry))) k 15 ⌝ }
+{
+    if k < text.len() { half_of(text[k]) } else { 15 }
+}
+
+// Writes the halves of `text`, two to an octet, over the start of `buf`.
+fn pack_text(buf: &mut [u8], text: &[u8])
+    requires { ⌜ packedLength (length (now text)) ≤ length (now buf) ⌝ }
+    ensures { λ _. ⌜ now (buf .exit) ≡ over (pack (halves (now (text .entry)))) (now (buf .entry)) ⌝ }
+{
+    let len = packed_len(text.len());
+    let mut i: usize = 0;
+    while i < len {
+        buf[i] = pair(half_at(text, 2 * i), half_at(text, 2 * i + 1));
+        i += 1;
+    }
+}
+
+// Writes the halves of `text`, two to an octet, over `buf` from the place `at` on and says true, if they fit; else changes
+// nothing and says false.
+pub fn pack_at(buf: &mut [u8], at: usize, text: &[u8]) -> bool
+    ensures { λ r. ⌜ Laid at (pack (halves (now (text .entry)))) (now (buf .entry)) r (now (buf .exit)) ⌝ }
+{
+    if !fits(buf.len(), at, packed_len(text.len())) {
+        return false;
+    }
+    pack_text(&mut buf[at..], text);
+    true
+}
