@@ -13,7 +13,7 @@ use Rattle.meaning.specs.Framing.{walk, attributes}
 use Rattle.meaning.specs.Refusals.{Refusal, none, refusal, first, tooShort, areaRefusal, areaOrder}
 use Rattle.meaning.specs.Sheet.{sheetOf, Readable, kindIn, flagsIn, areaIn, judged}
 use Rattle.meaning.specs.Breaches.{Breach, Lists}
-use Rattle.meaning.specs.Answers.{Answer, given, refused, unless, over, after, readAnswer, checkAnswer, listOf, Written, writeAnswer}
+use Rattle.meaning.specs.Answers.{given, refused, unless, over, after, readAnswer, checkAnswer, listOf, Written, writeAnswer}
 use Rattle.meaning.proofs.Sheets.{first-none, when-is-none, sheet-goes-back, accepted-sheet}
 use Rattle.meaning.proofs.Rising.{one-list}
 use Rattle.meaning.proofs.Placed.{list-lists}

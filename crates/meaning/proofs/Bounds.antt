@@ -1,26 +1,26 @@
 -- Bounds of a sheet: it is never longer than 9 + 2 x area length, its item count fits 16 bits, and it is made of octets, its counts
 -- among them. Assumes nothing.
-use mathlib.Core.Path.{_≡_, refl, sym, ap, _∙_}
+use mathlib.Core.Path.{_≡_, refl, ap}
 use mathlib.Core.Logic.{inl, inr}
-use mathlib.Core.Bool.{Bool, true, false, cond, _&&_, _||_, not}
-use mathlib.Core.List.{List, [], _∷_, _++_}
-use Prim.Native.Nat.{ℕ, zero, suc, _+_, _*_, _-_, _%_, _<_, _≤_}
+use mathlib.Core.Bool.{Bool, true, false, cond, _&&_}
+use mathlib.Core.List.{List, [], _∷_}
+use Prim.Native.Nat.{ℕ, _+_, _*_, _-_, _<_, _≤_}
 use native.Mathlib.Omega.{arith}
-use lib.Dec.{T, leb, ltb, eqb, leb→le}
-use borrow.Author.Tests.{ltb-true, ltb-false}
-use lib.ListN.{length, take, drop, getD, length-append}
-use Rattle.meaning.specs.Octets.{Octets, numberOf, octetsOf}
+use lib.Dec.{leb, leb→le}
+use borrow.Author.Tests.{ltb-true}
+use lib.ListN.{length, length-append}
+use Rattle.meaning.specs.Octets.{Octets, octetsOf}
 use Rattle.meaning.specs.Jobs.{isKind, areFlags}
 use Rattle.meaning.specs.Framing.{isPlain, Attribute, walkAt, walk, attributes}
-use Rattle.meaning.specs.Sheet.{typeOf, subOf, form, stored, count, item, itemsOf, sheetWith, sheetOf, Readable, attributeOctets, areaOf, carries}
+use Rattle.meaning.specs.Sheet.{typeOf, subOf, form, count, item, itemsOf, sheetWith, sheetOf, Readable, attributeOctets, areaOf}
 use Rattle.meaning.specs.Breaches.{Among}
 use Rattle.meaning.proofs.Tests.{parts, passes, in-among}
 use Rattle.meaning.proofs.Octets.{octets-append}
-use Rattle.meaning.proofs.Numbers.{octets-octets, octets-length}
+use Rattle.meaning.proofs.Numbers.{octets-octets}
 use Rattle.meaning.proofs.Forms.{stored-le, count-le, stored-octets, form-range}
 use Rattle.meaning.proofs.Framing.{plain-lines, gpp-lines}
 use Rattle.meaning.proofs.RoundTrip.{Carried, All, walked}
-use Rattle.meaning.proofs.Sheets.{Clear, clear, area-long}
+use Rattle.meaning.proofs.Sheets.{clear, area-long}
 
 -- ---- The length
 

@@ -8,7 +8,7 @@ use Rattle.meaning.specs.Framing.{gpp}
 use Rattle.meaning.specs.Refusals.{Refusal, none, refusal, areaRefusal}
 use Rattle.meaning.specs.Sheet.{form, stored, attributeOctets, mark, judged}
 use Rattle.meaning.specs.Breaches.{entry}
-use Rattle.meaning.specs.Answers.{Answer, given, refused, readAnswer, checkAnswer, writeAnswer, listOf}
+use Rattle.meaning.specs.Answers.{given, refused, readAnswer, checkAnswer, writeAnswer, listOf}
 use Rattle.meaning.specs.Seen.{areaA, sheetA}
 use Rattle.meaning.proofs.Computing.{computing}
 

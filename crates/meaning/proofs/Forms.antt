@@ -2,14 +2,14 @@
 -- is stored is no longer than the value. Assumes nothing.
 use mathlib.Core.Path.{_≡_, refl, sym, ap, subst, _∙_}
 use mathlib.Core.Logic.{_⊎_, inl, inr, ⊎-elim, _↔_}
-use mathlib.Core.Bool.{Bool, true, false, cond, _&&_, _||_}
-use mathlib.Core.List.{List, [], _∷_, _++_}
-use Prim.Native.Nat.{ℕ, zero, suc, _+_, _*_, _-_, _/_, _%_, _<_, _≤_}
+use mathlib.Core.Bool.{Bool, true, false, cond, _&&_}
+use mathlib.Core.List.{List, [], _∷_}
+use Prim.Native.Nat.{ℕ, suc, _+_, _*_, _-_, _/_, _%_, _<_, _≤_}
 use native.Mathlib.Omega.{arith}
-use lib.Dec.{T, eqb, leb, ltb, eqb→eq, leb→le}
+use lib.Dec.{T, eqb, leb, eqb→eq, leb→le}
 use borrow.Author.Tests.{lt-leb, eq-eqb, eqb-true}
 use lib.ListN.{length, take, drop, getD, length-drop}
-use Rattle.meaning.specs.Octets.{between, all, same, Octets, isDigit, isHex, digitValue, digitText, values, text, pack, unpack, packedLength}
+use Rattle.meaning.specs.Octets.{between, all, same, Octets, isDigit, isHex, digitValue, digitText, values, text, pack, packedLength}
 use Rattle.meaning.specs.Framing.{isPlain}
 use Rattle.meaning.specs.Shapes.{Shape, number, address, digits, hexadecimal, qos, hexDigit, anyOctet, decimalDigit, atLeast, exactly, blocks, free, shapeOf, release, meets}
 use Rattle.meaning.specs.Sheet.{formOf, storedOf, valueOf, decodes, form, stored, count, storedLength, valueIn}

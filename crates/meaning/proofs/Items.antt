@@ -1,19 +1,19 @@
 -- The items of a sheet: what stands at the front of an item's octets is that item, and what is accepted there is an item.
 -- Assumes nothing.
-use mathlib.Core.Path.{_≡_, refl, sym, ap, subst, _∙_}
-use mathlib.Core.Logic.{_⊎_, inl, inr, ⊎-elim}
+use mathlib.Core.Path.{_≡_, refl, sym, ap, _∙_}
+use mathlib.Core.Logic.{⊎-elim}
 use mathlib.Core.Bool.{Bool, true, false, cond, not, _&&_}
-use mathlib.Core.List.{List, [], _∷_, _++_}
-use Prim.Native.Nat.{ℕ, zero, suc, _+_, _-_, _<_, _≤_}
+use mathlib.Core.List.{List, _++_}
+use Prim.Native.Nat.{ℕ, _+_, _-_, _<_, _≤_}
 use native.Mathlib.Omega.{arith}
-use lib.Dec.{T, eqb, leb, ltb, leb→le}
-use borrow.Author.Tests.{lt-ltb, le-ltb, eq-eqb, ne-eqb, ltb-true, ltb-false, eqb-true, eqb-false}
-use lib.ListN.{length, take, drop, getD, length-append, length-take}
-use lib.Seq.{take-at, drop-at, length-take-le}
+use lib.Dec.{T, eqb, ltb, leb→le}
+use borrow.Author.Tests.{le-ltb, ne-eqb, ltb-false, eqb-true}
+use lib.ListN.{length, take, drop, getD, length-append}
+use lib.Seq.{take-at, length-take-le}
 use Rattle.meaning.specs.Octets.{Octets, same}
 use Rattle.meaning.specs.Framing.{gpp, isPlain}
-use Rattle.meaning.specs.Shapes.{shapeOf, plainShape, meets}
-use Rattle.meaning.specs.Sheet.{typeOf, subOf, formOf, decodes, form, stored, count, item, carries, numberIn, valueIn, storedLength, Entered, holds, refused, judgedItem, wholeItem, entered}
+use Rattle.meaning.specs.Shapes.{shapeOf, plainShape}
+use Rattle.meaning.specs.Sheet.{typeOf, subOf, formOf, decodes, form, stored, count, item, carries, numberIn, valueIn, storedLength, holds, refused, judgedItem, wholeItem, entered}
 use Rattle.meaning.proofs.Tests.{both, parts, is-true, passes, same-one, same-itself}
 use Rattle.meaning.proofs.Octets.{octet-at}
 use Rattle.meaning.proofs.Forms.{announced, stands-for, either-way}

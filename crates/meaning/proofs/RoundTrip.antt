@@ -1,25 +1,21 @@
 -- Reading and writing undo one another: an area's sheet is judged to be that area, kind and flags, and a sheet that the judgement
 -- accepts is the sheet of the area it gives. Assumes nothing.
-use mathlib.Core.Path.{_≡_, refl, sym, ap, subst, _∙_}
-use mathlib.Core.Bool.{Bool, true, false, cond, _&&_}
+use mathlib.Core.Path.{_≡_, refl, sym, ap, _∙_}
 use mathlib.Core.List.{List, [], _∷_, _++_}
 use Prim.Native.Nat.{ℕ, zero, suc, _+_, _-_, _<_, _≤_}
 use native.Mathlib.Omega.{arith}
 use lib.Dec.{T}
-use lib.ListN.{length, take, drop, length-append, length-drop, take-append-drop}
+use lib.ListN.{length, take, drop, take-append-drop}
 use lib.Seq.{drop-at}
-use borrow.Author.Tests.{ltb-true, ltb-false, leb-true}
-use lib.Dec.{ltb, leb, leb→le}
 use Rattle.meaning.specs.Octets.{Octets}
-use Rattle.meaning.specs.Framing.{isPlain, Attribute, Found, attribute, refused, nothing, found, Walk, end, broken, next, onward, from, attributes}
-use Rattle.meaning.specs.Refusals.{Refusal, none, refusal, fault}
+use Rattle.meaning.specs.Framing.{Attribute, Found, attribute, refused, nothing, found, Walk, next, onward, from, attributes}
+use Rattle.meaning.specs.Refusals.{none, refusal, fault}
 use Rattle.meaning.specs.Sheet.{item, itemsOf, attributeOctets, areaOf, carries, Entered, holds, entered, onItem, items}
 use Rattle.meaning.proofs.Walks.{from-attribute}
 use Rattle.meaning.proofs.Octets.{octets-take, octets-drop}
-use Rattle.meaning.proofs.Framing.{Framed, FoundIn, found-in, carried-found, carried-value, headOf, plain-lines, gpp-lines}
+use Rattle.meaning.proofs.Framing.{FoundIn, found-in, carried-found, carried-value, headOf}
 use Rattle.meaning.proofs.Forms.{octets-from-stored}
-use Rattle.meaning.proofs.Items.{Accepted, item-entered, entered-holds}
-use Rattle.meaning.proofs.Tests.{parts}
+use Rattle.meaning.proofs.Items.{item-entered, entered-holds}
 
 -- An attribute whose number and value a readable attribute carries.
 pub record Carried (a : Attribute) : Type 0 where

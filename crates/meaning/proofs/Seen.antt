@@ -1,9 +1,8 @@
 -- P1 to P10 of document 01 in a single claim over the whole set: each answer is what the definitions say of it, by the relation where
 -- it is a list. Assumes nothing.
-use mathlib.Core.Path.{_≡_, refl, sym, ap, _∙_}
+use mathlib.Core.Path.{_≡_, refl, sym}
 use mathlib.Core.List.{List, [], _∷_, map}
-use Prim.Native.Nat.{ℕ, _<_}
-use native.Mathlib.Omega.{arith}
+use Prim.Native.Nat.{ℕ}
 use lib.Dec.{T, ltb, ltb→lt}
 use Rattle.meaning.specs.Octets.{all, Octets}
 use Rattle.meaning.specs.Refusals.{areaRefusal}

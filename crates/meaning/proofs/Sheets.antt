@@ -1,24 +1,24 @@
 -- Demand 2, of the meaning: a sheet made by reading is judged to be its area, kind and flags; a sheet that the judgement accepts is
 -- the sheet of what it gives; so a sheet is accepted exactly when some readable area has it, and it has one. Assumes nothing.
-use mathlib.Core.Path.{_≡_, refl, sym, ap, subst, _∙_}
+use mathlib.Core.Path.{_≡_, refl, sym, ap, _∙_}
 use mathlib.Core.Logic.{_↔_}
 use mathlib.Core.Bool.{Bool, true, false, cond, not, _&&_}
 use mathlib.Core.List.{List, [], _∷_, _++_}
-use Prim.Native.Nat.{ℕ, zero, suc, _+_, _*_, _-_, _<_, _≤_}
+use Prim.Native.Nat.{ℕ, _+_, _*_, _-_, _<_, _≤_}
 use native.Mathlib.Omega.{arith}
 use lib.Dec.{T, ltb, leb, leb→le}
 use borrow.Author.Tests.{le-ltb, le-leb, ltb-true, ltb-false, not-false}
-use lib.ListN.{length, take, drop, getD, length-append, length-drop, take-append-drop}
+use lib.ListN.{length, take, drop, length-append, length-drop, take-append-drop}
 use lib.Seq.{drop-cons, drop-drop, length-take-le}
 use Rattle.meaning.specs.Octets.{Octets, same, numberOf, octetsOf}
 use Rattle.meaning.specs.Jobs.{isKind, areFlags}
-use Rattle.meaning.specs.Framing.{isPlain, Attribute, Walk, from, walkAt, walk, attributes}
+use Rattle.meaning.specs.Framing.{isPlain, Attribute, Walk, walkAt, walk, attributes}
 use Rattle.meaning.specs.Refusals.{Refusal, none, refusal, when, first, fault, tooLong, areaRefusal, sheetRefusal}
-use Rattle.meaning.specs.Sheet.{mark, itemsOf, sheetWith, sheetOf, Readable, Writable, attributeOctets, areaOf, carries, items, itemsIn, kindIn, flagsIn, areaIn, marked, judged}
+use Rattle.meaning.specs.Sheet.{mark, itemsOf, sheetWith, sheetOf, Readable, Writable, attributeOctets, areaOf, items, itemsIn, kindIn, flagsIn, areaIn, marked, judged}
 use Rattle.meaning.proofs.Tests.{parts, is-true, passes, same-one}
 use Rattle.meaning.proofs.Numbers.{number-back, octets-back}
 use Rattle.meaning.proofs.Framing.{plain-lines, gpp-lines}
-use Rattle.meaning.proofs.RoundTrip.{Carried, All, Walked, walked, Reread, reread, Kept, kept, Judged, judged-items, no-refusal}
+use Rattle.meaning.proofs.RoundTrip.{Carried, All, walked, reread, kept, judged-items, no-refusal}
 use Rattle.meaning.proofs.Octets.{octets-take, octets-drop, octets-append}
 
 -- ---- What it takes to be read

@@ -1,8 +1,8 @@
 -- The walk over an area: one unfolding for each thing that can stand at a place. Assumes nothing.
 use mathlib.Core.Path.{_≡_, refl, sym, ap, subst, _∙_}
 use mathlib.Core.Bool.{Bool, true, false, cond, _&&_}
-use mathlib.Core.List.{List, [], _∷_, _++_}
-use Prim.Native.Nat.{ℕ, zero, suc, _+_, _-_, _<_, _≤_}
+use mathlib.Core.List.{List, [], _∷_}
+use Prim.Native.Nat.{ℕ, zero, suc, _+_, _-_, _≤_}
 use native.Mathlib.Omega.{arith}
 use native.Mathlib.Nat.{add-zero}
 use lib.Dec.{ltb, leb, eqb}
@@ -10,7 +10,7 @@ use lib.ListN.{length, take, drop, getD, drop-of-length-le}
 use lib.Seq.{drop-drop}
 use borrow.Author.Tests.{ltb-false, leb-true, eqb-true}
 use Rattle.meaning.specs.Octets.{numberOf}
-use Rattle.meaning.specs.Framing.{gpp, Attribute, Found, attribute, refused, nothing, oneSub, vendorFound, found, foundAt, Walk, end, broken, next, onward, from, walkAt}
+use Rattle.meaning.specs.Framing.{gpp, Found, attribute, refused, nothing, oneSub, vendorFound, found, foundAt, end, broken, next, onward, from, walkAt}
 
 -- An attribute's head is two octets or more, and it lies within so many octets.
 abbrev pub Sized : ℕ → Found → Type 0

@@ -1,7 +1,7 @@
 -- Document 01, "The desk's three jobs": the kinds of message and the flags. Assumes nothing.
 use Prim.Native.Nat.{ℕ, _/_, _%_}
 use mathlib.Core.Bool.{Bool}
-use mathlib.Core.List.{List, [], _∷_}
+use mathlib.Core.List.{[], _∷_}
 use lib.Dec.{eqb}
 use Rattle.meaning.specs.Octets.{isIn, between}
 

@@ -2,7 +2,7 @@
 -- table of 1,536 entries carries for each kind and number. Assumes nothing.
 use Prim.Native.Nat.{ℕ}
 use mathlib.Core.Bool.{Bool, cond, not, _&&_, _||_}
-use mathlib.Core.List.{List, [], _∷_}
+use mathlib.Core.List.{[], _∷_}
 use lib.Dec.{eqb}
 use Rattle.meaning.specs.Octets.{isIn, between}
 use Rattle.meaning.specs.Jobs.{pap, chap, class}

@@ -1,0 +1,194 @@
+// The framing of an attribute area: what stands at a place of it, and whether it is well framed.
+ghost use mathlib.Core.Path.{_≡_};
+ghost use Prim.Native.Nat.{_+_, _^_, _<_, _≤_};
+ghost use lib.ListN.{length, drop};
+ghost use Rattle.meaning.specs.Jobs.{isKind, areFlags};
+ghost use Rattle.meaning.specs.Framing.{vendorFound, foundAt, walk};
+ghost use Rattle.meaning.specs.Framing as meant;
+ghost use Rattle.area.specs.Answers.{stepOf, framingOf, admittedOf};
+
+// A refusal of the book: its number and its second number.
+pub struct Refusal {
+    pub number: u32,
+    pub second: usize,
+}
+
+// A part of an area.
+pub struct Part {
+    pub start: usize,
+    pub len: usize,
+}
+
+// What stands at a place: an attribute with the number it carries, 0 to 255 for a plain one and 256 more than the sub-attribute's
+// for a 3GPP one, its value and the place behind it; a refusal; or nothing, at the area's end.
+pub enum Step {
+    Attribute {
+        number: u16,
+        value: Part,
+        next: usize,
+    },
+    Refused(Refusal),
+    End,
+}
+
+// The framing of a whole area: how many attributes it has, or the first refusal.
+pub enum Framing {
+    Whole(usize),
+    Broken(Refusal),
+}
+
+// The number that a plain attribute of type t carries.
+fn plain(t: u8) -> u16
+    ensures { λ r. ⌜ r ≡ t ⌝ }
+{
+    t as u16
+}
+
+// The number that a 3GPP sub-attribute s carries.
+fn gpp(s: u8) -> u16
+    ensures { λ r. ⌜ r ≡ meant.gpp s ⌝ }
+{
+    256 + (s as u16)
+}
+
+// A refusal at a place.
+fn refused(number: u32, place: usize) -> Step
+    ensures { λ r. ⌜ r ≡ stepOf place (meant.refused number) ⌝ }
+{
+    Step::Refused(Refusal {
+        number,
+        second: place,
+    })
+}
+
+// An attribute at a place, with so many octets before its value and so many in all.
+fn attribute(number: u16, place: usize, head: usize, size: usize) -> Step
+    requires { ⌜ (head ≤ size) × (place + size < 2 ^ 64) ⌝ }
+    ensures { λ r. ⌜ r ≡ stepOf place (meant.attribute number head size) ⌝ }
+{
+    Step::Attribute {
+        number,
+        value: Part {
+            start: place + head,
+            len: size - head,
+        },
+        next: place + size,
+    }
+}
+
+// What stands at a place where the type is 26 and the length is `size`.
+fn vendor_step(area: &[u8], place: usize, size: usize) -> Step
+    requires { ⌜ (2 ≤ size) × (place + size ≤ length (now area)) ⌝ }
+    ensures { λ r. ⌜ r ≡ stepOf place (vendorFound size (drop (place + 2) (now (area .entry)))) ⌝ }
+{
+    if size < 7 {
+        return refused(7, place);
+    }
+    if octets::u32_at(area, place + 2) != 10415 {
+        return attribute(26, place, 2, size);
+    }
+    // A string of one octet has no room for m.
+    if size < 8 {
+        return refused(8, place);
+    }
+    let m = octets::wide(area[place + 7]);
+    if 248 < m {
+        return refused(8, place);
+    }
+    if m == size - 6 {
+        attribute(gpp(area[place + 6]), place, 8, size)
+    } else {
+        refused(8, place)
+    }
+}
+
+// What stands at a place of an area, whatever the place.
+pub fn step_at(area: &[u8], place: usize) -> Step
+    ensures { λ r. ⌜ r ≡ stepOf place (foundAt (now (area .entry)) place) ⌝ }
+{
+    if area.len() <= place {
+        return Step::End;
+    }
+    let left = area.len() - place;
+    if left < 2 {
+        return refused(4, place);
+    }
+    let size = octets::wide(area[place + 1]);
+    if size < 2 {
+        return refused(5, place);
+    }
+    if left < size {
+        return refused(6, place);
+    }
+    let t = area[place];
+    if t == 26 {
+        vendor_step(area, place, size)
+    } else {
+        attribute(plain(t), place, 2, size)
+    }
+}
+
+// The framing of a whole area.
+pub fn survey(area: &[u8]) -> Framing
+    ensures { λ r. ⌜ r ≡ framingOf (walk (now (area .entry))) ⌝ }
+{
+    let mut place: usize = 0;
+    let mut count: usize = 0;
+    loop {
+        match step_at(area, place) {
+            Step::Attribute {
+                number: _,
+                value: _,
+                next,
+            } => {
+                place = next;
+                count += 1;
+            }
+            Step::Refused(refusal) => {
+                return Framing::Broken(refusal);
+            }
+            Step::End => {
+                return Framing::Whole(count);
+            }
+        }
+    }
+}
+
+// "Kinds: 1 Access-Request, 2 Accounting START, 3 STOP, 4 ON, 5 OFF, 6 Interim-Update".
+pub fn is_kind(kind: u32) -> bool
+    ensures { λ r. ⌜ r ≡ isKind kind ⌝ }
+{
+    (1 <= kind) & (kind <= 6)
+}
+
+// "Allowed flag numbers are 0, 1, 2, 4, 5 and 6, for every kind".
+pub fn are_flags(flags: u32) -> bool
+    ensures { λ r. ⌜ r ≡ areFlags flags ⌝ }
+{
+    (flags == 0) | ((flags == 1) | ((flags == 2) | ((flags == 4) | ((flags == 5) | (flags == 6)))))
+}
+
+// The framing of an area that comes with kind and flags: the first of refusals 1 to 8 that applies, or how many attributes it has.
+pub fn admit(area: &[u8], kind: u32, flags: u32) -> Framing
+    ensures { λ r. ⌜ r ≡ admittedOf kind flags (now (area .entry)) ⌝ }
+{
+    if !is_kind(kind) {
+        return Framing::Broken(Refusal {
+            number: 1,
+            second: 0,
+        });
+    }
+    if !are_flags(flags) {
+        return Framing::Broken(Refusal {
+            number: 2,
+            second: 0,
+        });
+    }
+    if 4076 < area.len() {
+        return Framing::Broken(Refusal {
+            number: 3,
+            second: area.len(),
+        });
+    }
+    survey(area)
+}
