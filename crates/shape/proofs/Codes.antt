@@ -1,0 +1,135 @@
+-- Laws of the codes: a number's shape comes back from its code, the tens are its form, and what a code that no shape has means.
+-- Assumes nothing.
+use mathlib.Core.Path.{_≡_, refl, ap, subst, _∙_}
+use mathlib.Core.Bool.{Bool, true, false, cond, _&&_}
+use mathlib.Core.List.{List, [], _∷_, map}
+use Prim.Native.Nat.{ℕ, _-_, _/_, _<_, _≤_}
+use native.Mathlib.Omega.{arith}
+use lib.Dec.{T, eqb, leb}
+use borrow.Author.Tests.{lt-ltb, le-ltb, ne-eqb}
+use Rattle.meaning.specs.Shapes.{Shape, number, address, digits, hexadecimal, qos, hexDigit, anyOctet, decimalDigit, atLeast, exactly, blocks, free, plainShape, gppShape, shapeOf}
+use Rattle.meaning.specs.Sheet.{formOf}
+use Rattle.meaning.proofs.Tests.{parts}
+use Rattle.shape.specs.Codes.{codeOf, shapes, shapeAmong, shapeBy}
+
+-- ---- The shape comes back
+
+back-either : (b : Bool) (s t : Shape) → shapeBy (codeOf (cond b s t)) ≡ cond b (shapeBy (codeOf s)) (shapeBy (codeOf t))
+back-either true s t = refl
+back-either false s t = refl
+
+plain-back : (t : ℕ) → shapeBy (codeOf (plainShape t)) ≡ plainShape t
+unfolding plainShape codeOf shapeBy
+plain-back t = simp back-either
+
+gpp-back : (s : ℕ) → shapeBy (codeOf (gppShape s)) ≡ gppShape s
+unfolding gppShape codeOf shapeBy
+gpp-back s = simp back-either
+
+-- The shape of a carried number comes back from its code.
+pub shape-back : (n : ℕ) → shapeBy (codeOf (shapeOf n)) ≡ shapeOf n
+unfolding shapeOf
+shape-back n = simp (back-either, plain-back, gpp-back)
+
+-- ---- The code of a number
+
+pub code-plain : (n : ℕ) → n < 256 → codeOf (shapeOf n) ≡ codeOf (plainShape n)
+unfolding shapeOf
+code-plain n h = rw (lt-ltb n 256 h)
+
+pub code-3gpp : (n : ℕ) → 256 ≤ n → codeOf (shapeOf n) ≡ codeOf (gppShape (n - 256))
+unfolding shapeOf
+code-3gpp n h = rw (le-ltb n 256 h)
+
+no-3gpp : (s : ℕ) → 19 ≤ s → gppShape s ≡ free
+unfolding gppShape
+no-3gpp s h =
+    let no : (k : ℕ) → k < 19 → eqb s k ≡ false = λ k g. ne-eqb s k (λ e. omega arith) in
+    simp (no 1 (omega arith), no 2 (omega arith), no 3 (omega arith), no 4 (omega arith), no 5 (omega arith), no 6 (omega arith), no 7 (omega arith), no 8 (omega arith), no 9 (omega arith), no 10 (omega arith), no 11 (omega arith), no 12 (omega arith), no 18 (omega arith))
+
+-- A number of 512 or more has no shape.
+pub code-past : (n : ℕ) → 512 ≤ n → codeOf (shapeOf n) ≡ 0
+unfolding codeOf
+code-past n h = code-3gpp n (omega arith) ∙ ap codeOf (no-3gpp (n - 256) (omega arith))
+
+-- ---- The form
+
+-- The tens of a code are the form of the shape.
+pub form-in-code : (s : Shape) → codeOf s / 10 ≡ formOf s
+unfolding codeOf formOf
+form-in-code number = refl
+form-in-code address = refl
+form-in-code (digits a b) = go (eqb a 1)
+  where
+    go : (c : Bool) → cond c 40 41 / 10 ≡ 4
+    go true = refl
+    go false = refl
+form-in-code hexadecimal = refl
+form-in-code qos = refl
+form-in-code hexDigit = refl
+form-in-code anyOctet = refl
+form-in-code decimalDigit = refl
+form-in-code (atLeast n) = go (eqb n 1)
+  where
+    go : (c : Bool) → cond c 1 2 / 10 ≡ 0
+    go true = refl
+    go false = refl
+form-in-code (exactly n) = refl
+form-in-code blocks = refl
+form-in-code free = refl
+
+-- ---- The shapes of all codes
+
+-- a test passes at each of some shapes
+abbrev each : (Shape → Bool) → List Shape → Bool
+each p [] = true
+each p (s ∷ l) = p s && each p l
+
+among-passes : (p : Shape → Bool) (l : List Shape) (code : ℕ) → T (p free) → T (each p l) → T (p (shapeAmong l code))
+among-passes p [] code f t = f
+among-passes p (s ∷ l) code f t =
+    go (eqb code (codeOf s)) (shapeAmong l code) (parts (p s) (each p l) t .0) (among-passes p l code f (parts (p s) (each p l) t .1))
+  where
+    go : (b : Bool) (other : Shape) → T (p s) → T (p other) → T (p (cond b s other))
+    go true other h g = h
+    go false other h g = g
+
+-- a shape of digits asks for 1 to 15
+abbrev pub fifteen : Shape → Bool
+fifteen (digits a b) = leb 1 a && leb b 15
+fifteen number = true
+fifteen address = true
+fifteen hexadecimal = true
+fifteen qos = true
+fifteen hexDigit = true
+fifteen anyOctet = true
+fifteen decimalDigit = true
+fifteen (atLeast n) = true
+fifteen (exactly n) = true
+fifteen blocks = true
+fifteen free = true
+
+-- "A digit string is at most fifteen digits": so it is for every number.
+pub at-most-fifteen : (n : ℕ) → T (fifteen (shapeOf n))
+unfolding shapeBy
+at-most-fifteen n = subst (λ (s : Shape). T (fifteen s)) (shape-back n) (among-passes fifteen shapes (codeOf (shapeOf n)) tt tt)
+
+-- a code behind the arms of a match: it is none of theirs, nor any of what came before
+abbrev pub Past : (before : Type 0) (code : ℕ) → List ℕ → Type 0
+Past before c [] = before
+Past before c (x ∷ l) = Past (before × (c ≡ x → ⊥)) c l
+
+past-before : (before : Type 0) (c : ℕ) (l : List ℕ) → Past before c l → before
+past-before before c [] p = p
+past-before before c (x ∷ l) p = past-before (before × (c ≡ x → ⊥)) c l p .0
+
+none-among : (before : Type 0) (l : List Shape) (c : ℕ) → Past before c (map codeOf l) → shapeAmong l c ≡ free
+none-among before [] c p = refl
+none-among before (s ∷ l) c p =
+    rw (ne-eqb c (codeOf s) (past-before (before × (c ≡ codeOf s → ⊥)) c (map codeOf l) p .1))
+    (none-among (before × (c ≡ codeOf s → ⊥)) l c p)
+
+-- A code that no shape has tells no shape.
+pub no-shape : (c : ℕ) → Past (Unit {0}) c (map codeOf shapes) → shapeBy c ≡ free
+unfolding shapeBy
+no-shape c p = none-among (Unit {0}) shapes c p

@@ -1,0 +1,6 @@
+pub mod Table
+pub mod Codes
+pub mod Meeting
+pub mod Formed
+pub mod Items
+pub mod Stored

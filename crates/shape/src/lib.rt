@@ -1,0 +1,245 @@
+// Which form the value of an attribute takes: the shape of the number that it carries, whether the value meets it, and the item of
+// the sheet that the attribute gives. Each public function takes any arguments.
+ghost use mathlib.Core.Path.{_≡_};
+ghost use mathlib.Core.Bool.{cond, _&&_};
+ghost use Prim.Native.Nat.{_<_, _%_};
+ghost use lib.Dec.{eqb};
+ghost use lib.ListN.{length};
+ghost use Rattle.meaning.specs.Octets.{all, isHex, digitValue};
+ghost use Rattle.meaning.specs.Shapes.{digits, qos, plainShape, gppShape, shapeOf, release};
+ghost use Rattle.meaning.specs.Shapes as meant;
+ghost use Rattle.meaning.specs.Framing.{isPlain};
+ghost use Rattle.meaning.specs.Sheet.{form, storedLength};
+ghost use Rattle.shape.specs.Codes.{codeOf, shapeBy};
+ghost use Rattle.shape.specs.Items.{undigited, itemAt};
+
+mod tables;
+
+// "An item's value is either a number, an address, digits or plain octets": plain octets as a part of the area; the digits stand
+// beside it.
+pub enum Value {
+    Number(u32),
+    Address(u32),
+    Digits,
+    Plain(area::Part),
+}
+
+// An item of the sheet: the number that it carries, 0 to 255 for a plain one and 256 more than the sub-attribute's for a 3GPP one,
+// its form and count, its value, and the digits in form 4.
+pub struct Item {
+    pub number: u16,
+    pub form: u8,
+    pub count: usize,
+    pub value: Value,
+    pub digits: octets::Digits,
+}
+
+// The code of a plain number's shape.
+fn plain_code(number: usize) -> u8
+    requires { ⌜ number < 256 ⌝ }
+    ensures { λ r. ⌜ r ≡ codeOf (plainShape number) ⌝ }
+{
+    tables::PLAIN[number]
+}
+
+// The code of a 3GPP number's shape.
+fn gpp_code(number: usize) -> u8
+    requires { ⌜ number < 256 ⌝ }
+    ensures { λ r. ⌜ r ≡ codeOf (gppShape number) ⌝ }
+{
+    tables::GPP[number]
+}
+
+// The code of the shape of a carried number, whatever the number.
+pub fn code_of(number: u16) -> u8
+    ensures { λ r. ⌜ r ≡ codeOf (shapeOf number) ⌝ }
+{
+    let n = number as usize;
+    if n < 256 {
+        return plain_code(n);
+    }
+    if n < 512 {
+        return gpp_code(n - 256);
+    }
+    0
+}
+
+// Whether a value is `least` to `most` decimal digits.
+fn meets_digits(value: &[u8], least: usize, most: usize) -> bool
+    ensures { λ r. ⌜ r ≡ meant.meets (digits least most) (now (value .entry)) ⌝ }
+{
+    if value.len() < least {
+        return false;
+    }
+    if most < value.len() {
+        return false;
+    }
+    octets::all_digits(value)
+}
+
+// Whether a value is `count` hexadecimal digits.
+fn meets_hex(value: &[u8], count: usize) -> bool
+    ensures { λ r. ⌜ r ≡ eqb (length (now (value .entry))) count && all isHex (now (value .entry)) ⌝ }
+{
+    if value.len() != count {
+        return false;
+    }
+    octets::all_hex(value)
+}
+
+// Whether a value is "98-" or "99-", by the second digit, and `count` hexadecimal digits.
+fn meets_release(value: &[u8], second: u8, count: usize) -> bool
+    requires { ⌜ count < 256 ⌝ }
+    ensures { λ r. ⌜ r ≡ release 57 second count (now (value .entry)) ⌝ }
+{
+    if value.len() != 3 + count {
+        return false;
+    }
+    if value[0] != b'9' {
+        return false;
+    }
+    if value[1] != second {
+        return false;
+    }
+    if value[2] != b'-' {
+        return false;
+    }
+    octets::all_hex(octets::part(value, 3, count))
+}
+
+// Whether a value is a QoS profile.
+fn meets_qos(value: &[u8]) -> bool
+    ensures { λ r. ⌜ r ≡ meant.meets qos (now (value .entry)) ⌝ }
+{
+    if meets_release(value, b'8', 6) {
+        return true;
+    }
+    meets_release(value, b'9', 22)
+}
+
+// Whether a value is 16 to 128 octets and a multiple of 16.
+fn meets_blocks(value: &[u8]) -> bool
+    ensures { λ r. ⌜ r ≡ meant.meets meant.blocks (now (value .entry)) ⌝ }
+{
+    let len = value.len();
+    (16 <= len) & (len <= 128) & (len % 16 == 0)
+}
+
+// Whether a value meets the shape of a code; tables.rt says which code is which.
+fn meets_code(code: u8, value: &[u8]) -> bool
+    ensures { λ r. ⌜ r ≡ meant.meets (shapeBy code) (now (value .entry)) ⌝ }
+{
+    match code {
+        1 => 1 <= value.len(),
+        2 => 5 <= value.len(),
+        3 => value.len() == 17,
+        4 => meets_blocks(value),
+        20 => value.len() == 4,
+        30 => value.len() == 4,
+        40 => meets_digits(value, 1, 15),
+        41 => meets_digits(value, 5, 6),
+        50 => meets_hex(value, 16),
+        60 => meets_qos(value),
+        70 => meets_hex(value, 1),
+        71 => value.len() == 1,
+        72 => meets_digits(value, 1, 1),
+        _ => true,
+    }
+}
+
+// Whether a value meets the shape of a carried number.
+pub fn meets(number: u16, value: &[u8]) -> bool
+    ensures { λ r. ⌜ r ≡ meant.meets (shapeOf number) (now (value .entry)) ⌝ }
+{
+    meets_code(code_of(number), value)
+}
+
+// "otherwise form 0 (plain) or 1 (3GPP)"
+fn plain_form(number: u16) -> u8
+    ensures { λ r. ⌜ r ≡ cond (isPlain number) 0 1 ⌝ }
+{
+    if number < 256 { 0 } else { 1 }
+}
+
+// The form that a value of a carried number takes.
+pub fn form_of(number: u16, value: &[u8]) -> u8
+    ensures { λ r. ⌜ r ≡ form number (now (value .entry)) ⌝ }
+{
+    let code = code_of(number);
+    let own = code / 10;
+    if own < 2 {
+        return plain_form(number);
+    }
+    if meets_code(code, value) {
+        own
+    } else {
+        plain_form(number)
+    }
+}
+
+// The octet that form 7 stores: any octet as it stands, or what a digit stands for.
+fn octet_of(number: u16, x: u8) -> u32
+    ensures { λ r. ⌜ r ≡ cond (eqb (codeOf (shapeOf number)) 71) x (digitValue x % 16) ⌝ }
+{
+    if code_of(number) == 71 {
+        x as u32
+    } else {
+        octets::half_of(x) as u32
+    }
+}
+
+// An item that has no digits.
+fn undigited_item(number: u16, form: u8, count: usize, value: Value) -> Item
+    ensures { λ r. ⌜ r ≡ undigited number form count value ⌝ }
+{
+    let digits = octets::Digits {
+        octets: [0u8; 15],
+        len: 0,
+    };
+    Item {
+        number,
+        form,
+        count,
+        value,
+        digits,
+    }
+}
+
+// The item of a carried number whose value is a part of an area, or as much of the part as the area has.
+pub fn item_of(area: &[u8], number: u16, value: area::Part) -> Item
+    ensures { λ r. ⌜ r ≡ itemAt (now (area .entry)) number value ⌝ }
+{
+    let v = octets::part(area, value.start, value.len);
+    let form = form_of(number, v);
+    let plain = Value::Plain(value);
+    match form {
+        2 => undigited_item(number, form, 4, Value::Number(octets::u32_at(v, 0))),
+        3 => undigited_item(number, form, 4, Value::Address(octets::u32_at(v, 0))),
+        4 => {
+            let got = octets::digits_of(v);
+            let digits = got.digits;
+            Item {
+                number,
+                form,
+                count: v.len(),
+                value: Value::Digits,
+                digits,
+            }
+        }
+        5 => undigited_item(number, form, octets::packed_len(v.len()), plain),
+        6 => undigited_item(number, form, 1 + octets::packed_len(v.len() - 3), plain),
+        7 => undigited_item(number, form, 1, Value::Number(octet_of(number, v[0]))),
+        _ => undigited_item(number, form, v.len(), plain),
+    }
+}
+
+// The octets that an item stores.
+pub fn stored_len(item: Item) -> usize
+    ensures { λ r. ⌜ r ≡ storedLength (item .form) (item .count) ⌝ }
+{
+    if item.form == 4 {
+        octets::packed_len(item.count)
+    } else {
+        item.count
+    }
+}

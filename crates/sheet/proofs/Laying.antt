@@ -1,0 +1,150 @@
+-- Octets laid over a buffer from a place on: by a test, and two pieces one behind the other. Assumes nothing.
+use mathlib.Core.Path.{_≡_, refl, sym, ap, _∙_}
+use mathlib.Core.Bool.{Bool, true, false, cond}
+use mathlib.Core.List.{List, [], _∷_, _++_, append-assoc}
+use Prim.Native.Nat.{ℕ, suc, _+_, _-_, _*_, _%_, _≤_, _<_}
+use native.Mathlib.Omega.{arith}
+use lib.Dec.{eqb}
+use lib.ListN.{length, take, drop, getD, length-append, length-drop}
+use lib.Seq.{take-at, take-all, drop-at, drop-drop, length-take-le}
+use borrow.Author.Tests.{eq-eqb, ne-eqb, lt-ltb, le-ltb}
+use Rattle.meaning.specs.Octets.{octetsOf, pack, packedLength, digitValue}
+use Rattle.meaning.specs.Answers.{over}
+use Rattle.octets.specs.Parts.{partOf, laidAt}
+use Rattle.octets.specs.DigitStrings.{halves, packedOf}
+use Rattle.octets.specs.declared.Digits.{Digits}
+use Rattle.octets.specs.declared.Packed.{Packed}
+use Rattle.octets.proofs.Overs.{laid-fits, laid-length}
+use Rattle.octets.proofs.Halves.{halves-packed}
+use Rattle.area.specs.declared.Part.{Part}
+use Rattle.shape.specs.declared.Item.{Item}
+use Rattle.shape.specs.declared.Value.the-variants as is
+use Rattle.shape.specs.Items.{storedPart, storedValue, storedIn}
+use Rattle.sheet.specs.Items.{headOf, itemIn, sheetHead, filledBy}
+
+-- what is laid is one of two things, by a test
+pub laid-if : (b : Bool) (at : ℕ) (s t d out : List ℕ) → b ≡ true → out ≡ laidAt at s d → out ≡ laidAt at (cond b s t) d
+laid-if b at s t d out e h = h ∙ rw e
+
+pub laid-else : (b : Bool) (at : ℕ) (s t d out : List ℕ) → b ≡ false → out ≡ laidAt at t d → out ≡ laidAt at (cond b s t) d
+laid-else b at s t d out e h = h ∙ rw e
+
+-- what is laid, by another name
+pub laid-as : (at : ℕ) (s t d out : List ℕ) → t ≡ s → out ≡ laidAt at s d → out ≡ laidAt at t d
+laid-as at s t d out e h = h ∙ rw e
+
+-- Laid one behind the other, two pieces stand as one.
+pub laid-two : (at n : ℕ) (s t d : List ℕ) → length s ≡ n → at + (n + length t) ≤ length d → laidAt (at + n) t (laidAt at s d) ≡ laidAt at (s ++ t) d
+unfolding over
+laid-two at n s t d size fits =
+    let front : List ℕ = take at d in
+    let rest : List ℕ = drop (length s) (drop at d) in
+    let f : length front ≡ at = length-take-le at d (omega arith) in
+    let first : laidAt at s d ≡ front ++ (s ++ rest) = laid-fits at s d (omega arith) in
+    let fs : length (front ++ s) ≡ at + n = length-append front s ∙ omega arith in
+    let whole : laidAt at s d ≡ (front ++ s) ++ rest = first ∙ sym (append-assoc front s rest) in
+    let st : length (s ++ t) ≡ n + length t = length-append s t ∙ omega arith in
+    laid-fits (at + n) t (laidAt at s d) (omega (arith, laid-length at s d))
+    ∙ rw (whole, take-at (front ++ s) rest (at + n) fs, drop-at (front ++ s) rest (at + n) fs, drop-drop (length t) (length s) (drop at d))
+    (append-assoc front s (t ++ drop (length s + length t) (drop at d))
+    ∙ ap (λ (x : List ℕ). front ++ x) (sym (append-assoc s t (drop (length s + length t) (drop at d))))
+    ∙ ap (λ (k : ℕ). front ++ ((s ++ t) ++ drop k (drop at d))) (sym (length-append s t))
+    ∙ sym (laid-fits at (s ++ t) d (omega arith)))
+
+-- ---- The forms of plain octets
+
+pub part-5 : (f : ℕ) (v : List ℕ) → f ≡ 5 → storedPart f v ≡ pack (halves v)
+unfolding storedPart
+part-5 f v e = rw (eq-eqb f 5 e)
+
+pub part-6 : (f : ℕ) (v : List ℕ) → (f ≡ 5 → ⊥) → f ≡ 6 → storedPart f v ≡ ((digitValue (getD v 0 0) * 10 + digitValue (getD v 1 0)) % 256) ∷ pack (halves (drop 3 v))
+unfolding storedPart
+part-6 f v d e = rw (ne-eqb f 5 d, eq-eqb f 6 e)
+
+pub part-plain : (f : ℕ) (v : List ℕ) → (f ≡ 5 → ⊥) → (f ≡ 6 → ⊥) → storedPart f v ≡ v
+unfolding storedPart
+part-plain f v d e = rw (ne-eqb f 5 d, ne-eqb f 6 e)
+
+-- a QoS profile takes the release octet and half the digits
+pub qos-room : (f at room : ℕ) (v : List ℕ) → (f ≡ 5 → ⊥) → f ≡ 6 → at + length (storedPart f v) ≤ room → at + (1 + packedLength (length v - 3)) ≤ room
+qos-room f at room v d e h =
+    let n : length (storedPart f v) ≡ suc (length (pack (halves (drop 3 v)))) = ap length (part-6 f v d e) in
+    let m : length (pack (halves (drop 3 v))) ≡ packedLength (length v - 3) = halves-packed (drop 3 v) ∙ ap packedLength (length-drop 3 v) in
+    omega arith
+
+-- ---- What the writers lay
+
+-- the digits of an item, out of their packed octets
+pub digits-laid : (d : Digits) (packed : Packed) (part : List ℕ) (at : ℕ) (buf out : List ℕ) → packed ≡ packedOf d → part ≡ partOf (packed .octets) 0 (packed .len) → out ≡ laidAt at part buf → out ≡ laidAt at (take (packedOf d .len) (packedOf d .octets)) buf
+unfolding partOf
+digits-laid d packed part at buf out p q h = h ∙ rw (q, p)
+
+-- the release octet and then the packed digits
+pub qos-laid : (v digits : List ℕ) (release at : ℕ) (buf first out : List ℕ) → release ≡ (digitValue (getD v 0 0) * 10 + digitValue (getD v 1 0)) % 256 → digits ≡ partOf v 3 (length v) → at + (1 + packedLength (length v - 3)) ≤ length buf → first ≡ laidAt at (release ∷ []) buf → out ≡ laidAt (at + 1) (pack (halves digits)) first → out ≡ laidAt at (((digitValue (getD v 0 0) * 10 + digitValue (getD v 1 0)) % 256) ∷ pack (halves (drop 3 v))) buf
+unfolding partOf
+qos-laid v digits release at buf first out r q room f h =
+    let e : digits ≡ drop 3 v = q ∙ take-all (length v) (drop 3 v) (omega (arith, length-drop 3 v)) in
+    let m : length (pack (halves (drop 3 v))) ≡ packedLength (length v - 3) = halves-packed (drop 3 v) ∙ ap packedLength (length-drop 3 v) in
+    h ∙ rw (f, e, r) (laid-two at 1 (((digitValue (getD v 0 0) * 10 + digitValue (getD v 1 0)) % 256) ∷ []) (pack (halves (drop 3 v))) buf refl (omega arith))
+
+module _ (area : List ℕ) (i : Item) where
+  -- an item of each value
+  pub number-stored : (n : ℕ) → i .value ≡ is.Number n → storedIn area i ≡ cond (eqb (i .form) 7) ((n % 256) ∷ []) (octetsOf 4 n)
+  unfolding storedIn storedValue
+  number-stored n e = rw e
+
+  pub address-stored : (n : ℕ) → i .value ≡ is.Address n → storedIn area i ≡ octetsOf 4 n
+  unfolding storedIn storedValue
+  address-stored n e = rw e
+
+  pub digits-stored : i .value ≡ is.Digits → storedIn area i ≡ take (packedOf (i .digits) .len) (packedOf (i .digits) .octets)
+  unfolding storedIn storedValue
+  digits-stored e = rw e
+
+  pub part-stored : (p : Part) → i .value ≡ is.Plain p → storedIn area i ≡ storedPart (i .form) (partOf area (p .start) (p .len))
+  unfolding storedIn storedValue
+  part-stored p e = rw e
+
+  -- plain octets have room where the item's stored octets have
+  pub part-room : (p : Part) (v : List ℕ) (at room : ℕ) → i .value ≡ is.Plain p → v ≡ partOf area (p .start) (p .len) → at + length (storedIn area i) ≤ room → at + length (storedPart (i .form) v) ≤ room
+  part-room p v at room e q h =
+      let same : storedIn area i ≡ storedPart (i .form) v = part-stored p e ∙ ap (storedPart (i .form)) (sym q) in
+      omega (arith, ap length same)
+
+  -- an item is its head and what it stores
+  pub item-laid : (at : ℕ) (head buf first out : List ℕ) → head ≡ headOf i → at + length (itemIn area i) ≤ length buf → first ≡ laidAt at head buf → out ≡ laidAt (at + 4) (storedIn area i) first → out ≡ laidAt at (itemIn area i) buf
+  unfolding itemIn headOf
+  item-laid at head buf first out e room f h = h ∙ rw (f, e) (laid-two at 4 (headOf i) (storedIn area i) buf refl (omega arith))
+
+  pub item-length : length (itemIn area i) ≡ 4 + length (storedIn area i)
+  unfolding itemIn headOf
+  item-length = omega arith
+
+pub plain-head : (i : Item) → i .number < 256 → i .number ∷ 0 ∷ i .form ∷ i .count ∷ [] ≡ headOf i
+unfolding headOf
+plain-head i h = rw (lt-ltb (i .number) 256 h)
+
+pub gpp-head : (i : Item) → 256 ≤ i .number → 26 ∷ (i .number - 256) ∷ i .form ∷ i .count ∷ [] ≡ headOf i
+unfolding headOf
+gpp-head i h = rw (le-ltb (i .number) 256 h)
+
+-- an item that is to be written has room
+pub item-room : (fill : Bool) (area : List ℕ) (i : Item) (at room : ℕ) → (fill ≡ true → at + length (itemIn area i) ≤ room) → fill ≡ true → at + 4 + length (storedIn area i) ≤ room
+item-room fill area i at room h e = omega (arith, h e, item-length area i)
+
+-- a buffer that is filled or left, by a flag
+pub filled : (fill : Bool) (s d out : List ℕ) → fill ≡ true → out ≡ s → out ≡ filledBy fill s d
+unfolding filledBy
+filled fill s d out e h = h ∙ rw e
+
+pub unfilled : (fill : Bool) (s d : List ℕ) → fill ≡ false → d ≡ filledBy fill s d
+unfolding filledBy
+unfilled fill s d e = rw e
+
+pub laid-room : (at : ℕ) (s d out : List ℕ) (n : ℕ) → out ≡ laidAt at s d → n ≤ length d → n ≤ length out
+laid-room at s d out n e h = omega (arith, ap length e, laid-length at s d)
+
+-- the head of a sheet, with the number of items in two octets
+pub head-laid : (kind flags count : ℕ) (many : List ℕ) → many ≡ octetsOf 2 count → 71 ∷ 73 ∷ 82 ∷ 0 ∷ 1 ∷ kind ∷ flags ∷ getD many 0 0 ∷ getD many 1 0 ∷ [] ≡ sheetHead kind flags count
+unfolding sheetHead octetsOf
+head-laid kind flags count many e = rw e

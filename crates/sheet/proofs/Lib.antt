@@ -1,0 +1,4 @@
+pub mod Laying
+pub mod Passes
+pub mod Whole
+pub mod Exactly

@@ -1,0 +1,18 @@
+-- What the answers of this crate stand for, in the numbers and values of document 01. Assumes nothing.
+use Prim.Native.Nat.{ℕ}
+use mathlib.Core.Path.{_≡_}
+use mathlib.Core.List.{List}
+use lib.ListN.{length}
+use Rattle.meaning.specs.Answers as meant
+use Rattle.sheet.specs.declared.Reading.{Reading}
+use Rattle.sheet.specs.declared.Reading.the-variants.{Sheet, Refused}
+
+-- a sheet by its length, a refusal by its number and second number
+abbrev pub readingOf : meant.Answer (List ℕ) → Reading
+readingOf (meant.given s) = Sheet (length s)
+readingOf (meant.refused n k) = Refused (record { number = n; second = k })
+
+-- what reading answers, and what the lent buffer holds then
+pub record Read (kind flags : ℕ) (area buffer : List ℕ) (said : Reading) (held : List ℕ) : Type 0 where
+  pub says : said ≡ readingOf (meant.readAnswer kind flags area (length buffer))
+  pub holds : held ≡ meant.after (meant.readAnswer kind flags area (length buffer)) buffer

@@ -1,0 +1,226 @@
+// Sheets: an attribute area is read into a sheet. Two passes over the area: the first finds every refusal and the octets needed,
+// the second writes.
+use area::Framing;
+use area::Refusal;
+use area::Step;
+use shape::Item;
+use shape::Value;
+ghost use mathlib.Core.Path.{_≡_};
+ghost use mathlib.Core.Bool.{true, cond};
+ghost use mathlib.Core.List.{[], _∷_};
+ghost use Prim.Native.Nat.{_+_, _-_, _*_, _%_, _≤_, _<_};
+ghost use lib.Dec.{eqb};
+ghost use lib.ListN.{length, take, drop, getD};
+ghost use Rattle.meaning.specs.Octets.{octetsOf, pack, packedLength, digitValue};
+ghost use Rattle.octets.specs.Parts.{laidAt};
+ghost use Rattle.octets.specs.DigitStrings.{halves, packedOf};
+ghost use Rattle.shape.specs.Items.{storedPart, storedIn};
+ghost use Rattle.sheet.specs.Items.{headOf, itemIn, Small, sheetHead, itemsIn, filledBy, Passed, Admitted};
+ghost use Rattle.sheet.specs.Answers.{Read};
+
+// What reading answers: the octets of the sheet that stands at the buffer's start, or a refusal.
+pub enum Reading {
+    Sheet(usize),
+    Refused(Refusal),
+}
+
+// The octet at a place, or 0 where there is none.
+fn octet_or_zero(s: &[u8], at: usize) -> u8
+    ensures { λ r. ⌜ r ≡ getD (now (s .entry)) at 0 ⌝ }
+{
+    if at < s.len() { s[at] } else { 0 }
+}
+
+// The release octet of a QoS profile: its two digits as a number.
+fn release_of(text: &[u8]) -> u8
+    ensures { λ r. ⌜ r ≡ (digitValue (getD (now (text .entry)) 0 0) * 10 + digitValue (getD (now (text .entry)) 1 0)) % 256 ⌝ }
+{
+    let tens = octets::wide(octets::digit_value(octet_or_zero(text, 0)));
+    let ones = octets::wide(octets::digit_value(octet_or_zero(text, 1)));
+    ((tens * 10 + ones) % 256) as u8
+}
+
+// Lays a number: one octet in form 7, else four.
+fn put_number(buf: &mut [u8], at: usize, form: u8, n: u32)
+    ensures { λ _. ⌜ now (buf .exit) ≡ laidAt at (cond (eqb form 7) ((n % 256) ∷ []) (octetsOf 4 n)) (now (buf .entry)) ⌝ }
+{
+    if form == 7 {
+        let one = [(n % 256) as u8];
+        octets::copy_at(buf, at, &one);
+        return;
+    }
+    let four = octets::u32_octets(n);
+    octets::copy_at(buf, at, &four);
+}
+
+// Lays digits, two to an octet.
+fn put_digits(buf: &mut [u8], at: usize, d: octets::Digits)
+    ensures { λ _. ⌜ now (buf .exit) ≡ laidAt at (take (packedOf d .len) (packedOf d .octets)) (now (buf .entry)) ⌝ }
+{
+    let packed = octets::packed_of(d);
+    let halves = packed.octets;
+    octets::copy_at(buf, at, octets::part(&halves, 0, packed.len));
+}
+
+// Lays a QoS profile: the release octet, then its hexadecimal digits two to an octet.
+fn put_qos(buf: &mut [u8], at: usize, text: &[u8])
+    requires { ⌜ at + (1 + packedLength (length (now text) - 3)) ≤ length (now buf) ⌝ }
+    ensures { λ _. ⌜ now (buf .exit) ≡ laidAt at (((digitValue (getD (now (text .entry)) 0 0) * 10 + digitValue (getD (now (text .entry)) 1 0)) % 256) ∷ pack (halves (drop 3 (now (text .entry))))) (now (buf .entry)) ⌝ }
+{
+    let release = [release_of(text)];
+    octets::copy_at(buf, at, &release);
+    octets::pack_at(buf, at + 1, octets::part(text, 3, text.len()));
+}
+
+// Lays plain octets: as they stand, in form 5 as packed text, in form 6 as a QoS profile.
+fn put_part(buf: &mut [u8], at: usize, form: u8, v: &[u8])
+    requires { ⌜ at + length (storedPart form (now v)) ≤ length (now buf) ⌝ }
+    ensures { λ _. ⌜ now (buf .exit) ≡ laidAt at (storedPart form (now (v .entry))) (now (buf .entry)) ⌝ }
+{
+    if form == 5 {
+        octets::pack_at(buf, at, v);
+        return;
+    }
+    if form == 6 {
+        put_qos(buf, at, v);
+        return;
+    }
+    octets::copy_at(buf, at, v);
+}
+
+// Lays what an item stores.
+fn put_stored(buf: &mut [u8], at: usize, area: &[u8], item: Item)
+    requires { ⌜ at + length (storedIn (now area) item) ≤ length (now buf) ⌝ }
+    ensures { λ _. ⌜ now (buf .exit) ≡ laidAt at (storedIn (now (area .entry)) item) (now (buf .entry)) ⌝ }
+{
+    let value = item.value;
+    let form = item.form;
+    match value {
+        Value::Number(n) => {
+            put_number(buf, at, form, n);
+            return;
+        }
+        Value::Address(n) => {
+            let four = octets::u32_octets(n);
+            octets::copy_at(buf, at, &four);
+            return;
+        }
+        Value::Digits => {
+            let digits = item.digits;
+            put_digits(buf, at, digits);
+            return;
+        }
+        Value::Plain(p) => {
+            put_part(buf, at, form, octets::part(area, p.start, p.len));
+            return;
+        }
+    }
+}
+
+// "type, sub-attribute number, form, count" of an item.
+fn head_of(item: Item) -> [u8; 4]
+    requires { ⌜ Small item ⌝ }
+    ensures { λ r. ⌜ r ≡ headOf item ⌝ }
+{
+    let n = item.number;
+    let form = item.form;
+    let count = item.count as u8;
+    if n < 256 {
+        return [n as u8, 0, form, count];
+    }
+    [26, (n - 256) as u8, form, count]
+}
+
+// Lays an item, head and stored octets, where `fill` says so.
+fn put_item(buf: &mut [u8], at: usize, area: &[u8], item: Item, fill: bool)
+    requires { ⌜ Small item × (fill ≡ true → at + length (itemIn (now area) item) ≤ length (now buf)) ⌝ }
+    ensures { λ _. ⌜ now (buf .exit) ≡ filledBy fill (laidAt at (itemIn (now (area .entry)) item) (now (buf .entry))) (now (buf .entry)) ⌝ }
+{
+    if !fill {
+        return;
+    }
+    let head = head_of(item);
+    octets::copy_at(buf, at, &head);
+    put_stored(buf, at + 4, area, item);
+}
+
+// Passes over the attributes of an area: counts the octets of their items and, where `fill` says so, lays these over the buffer's
+// start, one behind the other.
+fn pass(area: &[u8], buf: &mut [u8], fill: bool) -> usize
+    requires { ⌜ (fill ≡ true → length (itemsIn (now area)) ≤ length (now buf)) ⌝ }
+    ensures { λ r. ⌜ Passed (now (area .entry)) fill (now (buf .entry)) r (now (buf .exit)) ⌝ }
+{
+    let mut place: usize = 0;
+    let mut written: usize = 0;
+    loop {
+        match area::step_at(area, place) {
+            Step::Attribute {
+                number,
+                value,
+                next,
+            } => {
+                let item = shape::item_of(area, number, value);
+                put_item(buf, written, area, item, fill);
+                written += 4 + shape::stored_len(item);
+                place = next;
+            }
+            Step::Refused(_) => {
+                return written;
+            }
+            Step::End => {
+                return written;
+            }
+        }
+    }
+}
+
+// "Nine octets: mark GIR (47 49 52), version 1 as 16 bits, kind, flags, number of items as 16 bits".
+fn sheet_head(kind: u32, flags: u32, count: usize) -> [u8; 9]
+    requires { ⌜ (kind < 256) × (flags < 256) × (count < 65536) ⌝ }
+    ensures { λ r. ⌜ r ≡ sheetHead kind flags count ⌝ }
+{
+    let many = octets::u16_octets(count as u16);
+    [
+        b'G',
+        b'I',
+        b'R',
+        0,
+        1,
+        kind as u8,
+        flags as u8,
+        many[0],
+        many[1],
+    ]
+}
+
+// The sheet of an area that is admitted with its kind and flags, at the buffer's start, or refusal 9.
+fn lay(area: &[u8], kind: u32, flags: u32, count: usize, sheet: &mut [u8]) -> Reading
+    requires { ⌜ Admitted kind flags (now area) count ⌝ }
+    ensures { λ r. ⌜ Read kind flags (now (area .entry)) (now (sheet .entry)) r (now (sheet .exit)) ⌝ }
+{
+    let needed = 9 + pass(area, sheet, false);
+    if sheet.len() < needed {
+        return Reading::Refused(Refusal {
+            number: 9,
+            second: needed,
+        });
+    }
+    let head = sheet_head(kind, flags, count);
+    octets::copy_at(sheet, 0, &head);
+    pass(area, &mut sheet[9..], true);
+    Reading::Sheet(needed)
+}
+
+// "Read: attribute area, kind and flags give a sheet", at the buffer's start; a refusal leaves the buffer as it was.
+pub fn read(area: &[u8], kind: u32, flags: u32, sheet: &mut [u8]) -> Reading
+    ensures { λ r. ⌜ Read kind flags (now (area .entry)) (now (sheet .entry)) r (now (sheet .exit)) ⌝ }
+{
+    match area::admit(area, kind, flags) {
+        Framing::Broken(refusal) => {
+            return Reading::Refused(refusal);
+        }
+        Framing::Whole(count) => {
+            return lay(area, kind, flags, count, sheet);
+        }
+    }
+}
