@@ -57,6 +57,7 @@ pub record Present (n : ℕ) (l : List Attribute) : Type 0 where
   pub among : Among which l
   pub carries : which .number ≡ n
 
+-- no attribute carries the number ("absent")
 abbrev pub Absent : ℕ → List Attribute → Type 0
 Absent n l = Present n l → ⊥
 
@@ -93,8 +94,9 @@ pub record Lists (l : List ℕ) (P : ℕ → Type 0) : Type 0 where
   pub rising : RisingFrom 0 l
   pub exact : (e : ℕ) → Among e l ↔ P e
 
--- ---- The list, computed: entries that may stand in it, in rising order, each with its test
+-- ---- The list, computed
 
+-- an entry that may stand in the list, with its test
 pub record Candidate : Type 0 where
   pub key : ℕ
   pub stands : Bool

@@ -27,6 +27,10 @@ pub data Found : Type 0 where
   refused : (number : ℕ) → Found
   nothing : Found
 
+-- "vendor 10415"
+abbrev pub vendor3gpp : ℕ
+vendor3gpp = 10415
+
 -- "with 2 <= m <= 248 and m = n - 6"
 unfoldable pub oneSub : (n m : ℕ) → Bool
 oneSub n m = leb 2 m && (leb m 248 && eqb m (n - 6))
@@ -35,7 +39,7 @@ oneSub n m = leb 2 m && (leb m 248 && eqb m (n - 6))
 unfoldable pub vendorFound : (n : ℕ) → List ℕ → Found
 vendorFound n r =
     cond (ltb n 7) (refused 7)
-    (cond (eqb (numberOf (take 4 r)) 10415)
+    (cond (eqb (numberOf (take 4 r)) vendor3gpp)
     (cond (oneSub n (getD r 5 0)) (attribute (gpp (getD r 4 0)) 8 n) (refused 8))
     (attribute 26 2 n))
 

@@ -14,6 +14,7 @@ pub data Job : Type 0 where
   read : Job
   check : Job
 
+-- a case: what is asked, and what the answer is
 pub record Case : Type 0 where
   pub job : Job
   pub kind : ℕ

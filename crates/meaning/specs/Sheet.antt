@@ -7,7 +7,7 @@ use mathlib.Core.List.{List, [], _∷_, _++_}
 use lib.Dec.{eqb, leb, ltb}
 use lib.ListN.{length, take, drop, getD}
 use Rattle.meaning.specs.Octets.{Octets, same, numberOf, octetsOf, pack, unpack, packedLength, digitValue, values, text}
-use Rattle.meaning.specs.Framing.{gpp, isPlain, Attribute, Walk, end, broken, next, walk, attributes}
+use Rattle.meaning.specs.Framing.{gpp, isPlain, vendor3gpp, Attribute, Walk, end, broken, next, walk, attributes}
 use Rattle.meaning.specs.Refusals.{Refusal, none, areaRefusal, sheetRefusal}
 use Rattle.meaning.specs.Shapes.{Shape, number, address, digits, hexadecimal, qos, hexDigit, anyOctet, decimalDigit, atLeast, exactly, blocks, free, shapeOf, meets}
 
@@ -133,7 +133,7 @@ areaOf (a ∷ l) = attributeOctets (a .number) (a .value) ++ areaOf l
 unfoldable pub carries : (number : ℕ) → List ℕ → Bool
 carries n v =
     cond (isPlain n)
-    (leb (length v) 253 && (not (eqb n 26) || (leb 5 (length v) && not (eqb (numberOf (take 4 v)) 10415))))
+    (leb (length v) 253 && (not (eqb n 26) || (leb 5 (length v) && not (eqb (numberOf (take 4 v)) vendor3gpp))))
     (leb (length v) 246)
 
 -- the number that an item's head names; form 0 of type 26 is another vendor's
