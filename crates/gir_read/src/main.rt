@@ -1,0 +1,150 @@
+// gir_read: an attribute area with its kind and flags, from standard input or from the file that the argument names: a kind octet,
+// a flags octet, then the area. Prints the sheet's raw octets, or one line: `refused N S` or `short`.
+use area::Refusal;
+use libc::STDERR_FILENO;
+use libc::STDIN_FILENO;
+use libc::STDOUT_FILENO;
+use sheet::Reading;
+
+// Says on standard error what could not be opened, read or written.
+fn fail(name: &[u8]) {
+    io::write_all(STDERR_FILENO, b"gir_read: ");
+    os::fail(name);
+}
+
+// Writes octets to standard output, and says so if that fails.
+fn print(s: &[u8]) {
+    if !io::write_all(STDOUT_FILENO, s) {
+        fail(b"standard output");
+    }
+}
+
+// What one more read of the input gives.
+enum Chunk {
+    Octets(u64),
+    End,
+    Failed,
+}
+
+// The octets of the whole input, or that a read failed.
+enum Counted {
+    All(u64),
+    Failed,
+}
+
+// Reads past what is kept, and tells how much came.
+fn more(fd: i32) -> Chunk {
+    let mut buf = io::buffer();
+    let got = libc::read(fd, &mut buf);
+    if got < 0 {
+        return Chunk::Failed;
+    }
+    let n = io::count(got, &buf);
+    if n == 0 {
+        return Chunk::End;
+    }
+    Chunk::Octets(n as u64)
+}
+
+// Counts the input to its end, with the octets had already; at most the largest 64-bit number.
+fn count(fd: i32, had: u64) -> Counted {
+    let mut total = had;
+    let mut turns = u64::MAX;
+    while turns > 0 {
+        match more(fd) {
+            Chunk::Octets(n) => {
+                if n > u64::MAX - total {
+                    return Counted::All(u64::MAX);
+                }
+                total += n;
+                turns -= 1;
+            }
+            Chunk::End => {
+                return Counted::All(total);
+            }
+            Chunk::Failed => {
+                return Counted::Failed;
+            }
+        }
+    }
+    Counted::All(total)
+}
+
+// The octets of the area, of all that the input has.
+fn area_length(all: u64) -> u64 {
+    if all < 2 { 0 } else { all - 2 }
+}
+
+// Prints the line of a refusal; 3 tells the length of the whole area, of which only a part was kept.
+fn print_refusal(refusal: Refusal, all: u64) {
+    let number = refusal.number;
+    let second = refusal.second;
+    io::write_all(STDOUT_FILENO, b"refused ");
+    io::print_decimal(STDOUT_FILENO, number as u64);
+    io::write_all(STDOUT_FILENO, b" ");
+    if number == 3 {
+        io::print_decimal(STDOUT_FILENO, area_length(all));
+    } else {
+        io::print_decimal(STDOUT_FILENO, second as u64);
+    }
+    print(b"\n");
+}
+
+fn wide(x: u8) -> u32 {
+    x as u32
+}
+
+// Prints the answer for a payload: the kind octet, the flags octet and the area, or as much of it as decides the answer.
+fn print_answer(payload: &[u8], all: u64) {
+    if payload.len() < 2 {
+        print(b"short\n");
+        return;
+    }
+    let kind = wide(payload[0]);
+    let flags = wide(payload[1]);
+    let mut sheet = [0u8; 8161];
+    match sheet::read(&payload[2..], kind, flags, &mut sheet) {
+        Reading::Sheet(n) => {
+            print(octets::part(&sheet, 0, n));
+        }
+        Reading::Refused(refusal) => {
+            print_refusal(refusal, all);
+        }
+    }
+}
+
+// Reads the input and prints the answer; the 4,077th octet of an area is enough to know that it is too long.
+fn answer(fd: i32, name: &[u8]) {
+    let mut buf = [0u8; 4079];
+    let kept = io::read_full(fd, &mut buf);
+    let Counted::All(all) = count(fd, kept as u64) else {
+        fail(name);
+        return;
+    };
+    print_answer(octets::part(&buf, 0, kept), all);
+}
+
+fn main() {
+    let args = os::arg_count();
+    if args < 2 {
+        answer(STDIN_FILENO, b"standard input");
+        return;
+    }
+    if args > 2 {
+        io::write_all(STDERR_FILENO, b"gir_read: one file at most\n");
+        return;
+    }
+    let mut name = io::buffer();
+    let n = os::arg(1, &mut name);
+    if os::errno() != 0 {
+        fail(octets::part(&name, 0, 4096));
+        return;
+    }
+    let fd = os::open_read(octets::part(&name, 0, n));
+    if fd < 0 {
+        fail(octets::part(&name, 0, n));
+        return;
+    }
+    answer(fd, octets::part(&name, 0, n));
+    libc::close(fd);
+}
