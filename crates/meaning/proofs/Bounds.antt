@@ -20,17 +20,9 @@ use Rattle.meaning.proofs.Numbers.{octets-octets}
 use Rattle.meaning.proofs.Forms.{stored-le, count-le, stored-octets, form-range}
 use Rattle.meaning.proofs.Framing.{plain-lines, gpp-lines}
 use Rattle.meaning.proofs.RoundTrip.{Carried, All, walked}
-use Rattle.meaning.proofs.Sheets.{clear, area-long}
+use Rattle.meaning.proofs.Sheets.{clear, attribute-length, area-long}
 
 -- ---- The length
-
-attribute-length : (n : ℕ) (v : List ℕ) → length v + 2 ≤ length (attributeOctets n v)
-unfolding attributeOctets
-attribute-length n v = go (isPlain n)
-  where
-    go : (b : Bool) → length v + 2 ≤ length (cond b (n ∷ (length v + 2) ∷ v) (26 ∷ (length v + 8) ∷ 0 ∷ 0 ∷ 40 ∷ 175 ∷ (n - 256) ∷ (length v + 2) ∷ v))
-    go true = omega arith
-    go false = omega arith
 
 item-bound : (n : ℕ) (v : List ℕ) → length (item n v) ≤ 2 * length (attributeOctets n v)
 unfolding item

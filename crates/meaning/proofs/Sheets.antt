@@ -57,11 +57,12 @@ clear-read kind flags area c = rw (c .kind-ok, c .flags-ok, le-ltb 4076 (length 
 
 -- ---- There
 
-attribute-long : (n : ℕ) (v : List ℕ) → 2 ≤ length (attributeOctets n v)
+-- an attribute is its value and two octets more, or eight
+pub attribute-length : (n : ℕ) (v : List ℕ) → length v + 2 ≤ length (attributeOctets n v)
 unfolding attributeOctets
-attribute-long n v = go (isPlain n)
+attribute-length n v = go (isPlain n)
   where
-    go : (b : Bool) → 2 ≤ length (cond b (n ∷ (length v + 2) ∷ v) (26 ∷ (length v + 8) ∷ 0 ∷ 0 ∷ 40 ∷ 175 ∷ (n - 256) ∷ (length v + 2) ∷ v))
+    go : (b : Bool) → length v + 2 ≤ length (cond b (n ∷ (length v + 2) ∷ v) (26 ∷ (length v + 8) ∷ 0 ∷ 0 ∷ 40 ∷ 175 ∷ (n - 256) ∷ (length v + 2) ∷ v))
     go true = omega arith
     go false = omega arith
 
@@ -69,7 +70,7 @@ attribute-long n v = go (isPlain n)
 pub area-long : (l : List Attribute) → 2 * length l ≤ length (areaOf l)
 unfolding areaOf
 area-long [] = omega arith
-area-long (a ∷ l) = omega (arith, area-long l, attribute-long (a .number) (a .value), length-append (attributeOctets (a .number) (a .value)) (areaOf l))
+area-long (a ∷ l) = omega (arith, area-long l, attribute-length (a .number) (a .value), length-append (attributeOctets (a .number) (a .value)) (areaOf l))
 
 -- What a sheet with these attributes says of itself.
 pub record Says (kind flags : ℕ) (l : List Attribute) (sheet : List ℕ) : Type 0 where

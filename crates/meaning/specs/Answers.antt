@@ -31,7 +31,7 @@ unfoldable pub readAnswer : (kind flags : ℕ) (area : List ℕ) (room : ℕ) �
 readAnswer kind flags area room =
     unless (areaOrder kind flags area 9 (length (sheetOf kind flags area)) room) (sheetOf kind flags area)
 
--- the breaches of an area, its attributes taken from the walk
+-- "a list of breaches" of an area, its attributes taken from the walk
 unfoldable pub listOf : (kind flags : ℕ) (area : List ℕ) → List ℕ
 listOf kind flags area = breaches kind flags (length area) (attributes (walk area))
 
@@ -40,7 +40,7 @@ unfoldable pub checkAnswer : (kind flags : ℕ) (area : List ℕ) (room : ℕ) �
 checkAnswer kind flags area room =
     unless (areaOrder kind flags area 10 (length (listOf kind flags area)) room) (listOf kind flags area)
 
--- area, kind and flags, as writing gives them back
+-- "a sheet gives back area, kind and flags"
 pub record Written : Type 0 where
   pub kind : ℕ
   pub flags : ℕ

@@ -61,7 +61,7 @@ pub record Present (n : ℕ) (l : List Attribute) : Type 0 where
 abbrev pub Absent : ℕ → List Attribute → Type 0
 Absent n l = Present n l → ⊥
 
--- an attribute of the list with those before it
+-- rule 3, "an earlier attribute": an attribute of the list with those before it
 pub record After (l : List Attribute) (a : Attribute) (earlier : List Attribute) : Type 0 where
   pub later : List Attribute
   pub whole : l ≡ earlier ++ a ∷ later
@@ -72,7 +72,7 @@ pub data Wanted (kind flags : ℕ) (l : List Attribute) (n : ℕ) : Type 0 where
   byFlags : T (conditional kind flags n) → Wanted kind flags l n
   byProtocol : T (asksPdpType kind) → Present 7 l → n ≡ gpp 3 → Wanted kind flags l n
 
--- The breaches of the attributes l of an area of that length, one case for each rule; e is the entry.
+-- "Rules 1 to 4 stand at the attribute's place, 5 to 7 at the area's length": the breaches, one case for each rule; e is the entry
 pub data Breach (kind flags length : ℕ) (l : List Attribute) (e : ℕ) : Type 0 where
   shape1 : (a : Attribute) → Among a l → T (misses a) → e ≡ entry (a .place) 1 (a .number) → Breach kind flags length l e
   value2 : (a : Attribute) → Among a l → T (offends kind a) → e ≡ entry (a .place) 2 (a .number) → Breach kind flags length l e
@@ -84,7 +84,7 @@ pub data Breach (kind flags length : ℕ) (l : List Attribute) (e : ℕ) : Type 
 
 -- ---- The list
 
--- each is at least b, and each is above the one before
+-- "in rising order": each is at least b, and each is above the one before
 abbrev pub RisingFrom : (b : ℕ) → List ℕ → Type 0
 RisingFrom b [] = Unit {0}
 RisingFrom b (x ∷ l) = (b ≤ x) × RisingFrom (suc x) l

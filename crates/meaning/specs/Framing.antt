@@ -14,7 +14,7 @@ gpp s = 256 + s
 abbrev pub isPlain : ℕ → Bool
 isPlain n = ltb n 256
 
--- an attribute of an area: where it stands, the number it carries, its value
+-- "An attribute is type, length, value": where it stands, the number it carries, its value
 pub record Attribute : Type 0 where
   pub place : ℕ
   pub number : ℕ
@@ -77,7 +77,7 @@ from zero p (x ∷ l) = onward p (x ∷ l) (λ k. from k (suc p) l) (found (x �
 unfoldable pub walkAt : List ℕ → (place : ℕ) → Walk
 walkAt area p = from 0 p (drop p area)
 
--- the walk over a whole area
+-- the walk over a whole area: "the first attribute from the left that fails", or the end
 unfoldable pub walk : List ℕ → Walk
 walk area = walkAt area 0
 

@@ -48,7 +48,7 @@ pack [] = []
 pack (a ∷ []) = (a * 16 + 15) ∷ []
 pack (a ∷ b ∷ l) = (a * 16 + b) ∷ pack l
 
--- so many halves out of packed octets
+-- "two to an octet", the way back: so many halves out of packed octets
 unfoldable pub unpack : (count : ℕ) → List ℕ → List ℕ
 unpack zero s = []
 unpack (suc n) [] = []
@@ -67,7 +67,7 @@ isDigit x = between 48 57 x
 abbrev pub isHex : ℕ → Bool
 isHex x = isDigit x || between 65 70 x
 
--- what a decimal or hexadecimal digit stands for
+-- "one hexadecimal digit, stored 0 to 15": what a digit stands for
 abbrev pub digitValue : ℕ → ℕ
 digitValue x = cond (leb x 57) (x - 48) (x - 55)
 
@@ -75,7 +75,7 @@ digitValue x = cond (leb x 57) (x - 48) (x - 55)
 abbrev pub digitText : ℕ → ℕ
 digitText n = cond (leb n 9) (n + 48) (n + 55)
 
--- a text of digits, as numbers
+-- "hexadecimal text turned into octets": a text of digits, as numbers
 unfoldable pub values : List ℕ → List ℕ
 values = map digitValue
 

@@ -8,12 +8,12 @@ use lib.ListN.{length}
 use Rattle.meaning.specs.Jobs.{isKind, areFlags}
 use Rattle.meaning.specs.Framing.{Walk, end, broken, next, walk}
 
--- a refusal with its number and second number, or none
+-- "No.", "Second number": a refusal with both, or none
 pub data Refusal : Type 0 where
   none : Refusal
   refusal : (number second : ℕ) → Refusal
 
--- a line of the book: its number and second number, if it applies
+-- a row of the book, "When": its number and second number, if it applies
 abbrev pub when : (applies : Bool) (number second : ℕ) → Refusal
 when true n s = refusal n s
 when false n s = none
@@ -23,7 +23,7 @@ abbrev pub first : Refusal → Refusal → Refusal
 first none r = r
 first (refusal n s) r = refusal n s
 
--- the refusal that a walk ends in
+-- 4 to 8, 22, 23: the refusal that a walk ends in
 unfoldable pub fault : Walk → Refusal
 fault end = none
 fault (broken n p) = refusal n p

@@ -47,7 +47,7 @@ gppShape s =
     (cond (eqb s 11) anyOctet
     (cond (eqb s 12) decimalDigit free)))))))
 
--- the shape of a carried number
+-- "Plain. ..", "3GPP. ..": the shape of a carried number
 unfoldable pub shapeOf : ℕ → Shape
 shapeOf n = cond (isPlain n) (plainShape n) (gppShape (n - 256))
 
@@ -55,7 +55,7 @@ shapeOf n = cond (isPlain n) (plainShape n) (gppShape (n - 256))
 abbrev pub release : (one two count : ℕ) → List ℕ → Bool
 release a b n v = same (take 3 v) (a ∷ b ∷ 45 ∷ []) && (eqb (length v) (3 + n) && all isHex (drop 3 v))
 
--- the value meets the shape
+-- "shape met": the value meets the shape
 unfoldable pub meets : Shape → List ℕ → Bool
 meets number v = eqb (length v) 4
 meets address v = eqb (length v) 4

@@ -97,13 +97,13 @@ mark = 0x47 ∷ 0x49 ∷ 0x52 ∷ 0 ∷ 1 ∷ []
 unfoldable pub sheetWith : (kind flags : ℕ) → List Attribute → List ℕ
 sheetWith kind flags l = mark ++ kind ∷ flags ∷ octetsOf 2 (length l) ++ itemsOf l
 
--- the sheet of an area with kind and flags
+-- "attribute area, kind and flags give a sheet"
 unfoldable pub sheetOf : (kind flags : ℕ) → List ℕ → List ℕ
 sheetOf kind flags area = sheetWith kind flags (attributes (walk area))
 
 -- ---- Which sheets are written
 
--- An area with kind and flags that is read: nothing of 1 to 8 applies.
+-- "some readable area": nothing of 1 to 8 applies to the area with kind and flags
 pub record Readable (kind flags : ℕ) (area : List ℕ) : Type 0 where
   pub octets : Octets area
   pub accepted : areaRefusal kind flags area ≡ none
@@ -118,7 +118,7 @@ pub record Writable (sheet : List ℕ) : Type 0 where
 
 -- ---- The judgement of a sheet
 
--- the octets of an attribute in an area
+-- "type, length, value"; for 3GPP the id, then "number, length m, value": the octets of an attribute
 unfoldable pub attributeOctets : (number : ℕ) → List ℕ → List ℕ
 attributeOctets n v =
     cond (isPlain n) (n ∷ (length v + 2) ∷ v)
@@ -129,7 +129,7 @@ unfoldable pub areaOf : List Attribute → List ℕ
 areaOf [] = []
 areaOf (a ∷ l) = attributeOctets (a .number) (a .value) ++ areaOf l
 
--- a readable attribute carries the number with this value: the length octets hold it, and a plain 26 is another vendor's
+-- 23, "over-long values": a readable attribute carries the number with this value; a plain 26 is another vendor's
 unfoldable pub carries : (number : ℕ) → List ℕ → Bool
 carries n v =
     cond (isPlain n)
@@ -185,15 +185,15 @@ items zero p [] = end
 items zero p (x ∷ l) = broken 22 p
 items (suc c) p l = onItem p (λ size. items c (p + size) (drop size l)) (entered l)
 
--- the items that a sheet announces
+-- "number of items as 16 bits", then the items from place 9 on
 unfoldable pub itemsIn : List ℕ → Walk
 itemsIn sheet = items (numberOf (take 2 (drop 7 sheet))) 9 (drop 9 sheet)
 
--- the kind in a sheet
+-- "kind" in a sheet
 abbrev pub kindIn : List ℕ → ℕ
 kindIn sheet = getD sheet 5 0
 
--- the flags in a sheet
+-- "flags" in a sheet
 abbrev pub flagsIn : List ℕ → ℕ
 flagsIn sheet = getD sheet 6 0
 
@@ -205,7 +205,7 @@ areaIn sheet = areaOf (attributes (itemsIn sheet))
 unfoldable pub marked : List ℕ → Bool
 marked sheet = leb 9 (length sheet) && same (take 5 sheet) mark
 
--- the judgement: the first of 20 to 24 that applies
+-- "For write: 20, 21, items ..": the first of 20 to 24 that applies
 unfoldable pub judged : List ℕ → Refusal
 judged sheet =
     sheetRefusal (marked sheet) (kindIn sheet) (flagsIn sheet) (itemsIn sheet) (length (areaIn sheet))

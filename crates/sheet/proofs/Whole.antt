@@ -45,14 +45,14 @@ module _ (kind flags : ℕ) (area : List ℕ) (count : ℕ) (a : Admitted kind f
       ∙ ap (λ (n : ℕ). n + length (itemsIn area)) (head-long kind flags count)
 
   -- what the head's octets and the sum ask for
-  pub record Small : Type 0 where
+  pub record Bounded : Type 0 where
     pub kind-low : kind < 256
     pub flags-low : flags < 256
     pub few : count < 65536
     pub short : length (itemsIn area) ≤ 8152
 
-  pub small : Octets area → Small
-  small o =
+  pub bounded : Octets area → Bounded
+  bounded o =
       let r : Readable kind flags area = record { octets = o; accepted = a .accepted } in
       let c = clear kind flags area (a .accepted) in
       record {

@@ -4,7 +4,7 @@ use borrow.Author.Needs.{needs}
 use mathlib.Core.Path.{ap}
 use native.Mathlib.Omega.{arith}
 use Rattle.area.proofs.Steps.{slice-octets}
-use Rattle.sheet.proofs.Whole.{false-not-true, small, too-long, sheet-laid}
+use Rattle.sheet.proofs.Whole.{false-not-true, bounded, too-long, sheet-laid}
 use Rattle.sheet.proofs.lay.Statement.{statement}
 use Rattle.sheet.proofs.lay.Tie as tie
 
@@ -12,7 +12,7 @@ pass-requires : tie.Need-pass-requires
 pass-requires c κs = λ e. absurd (false-not-true e)
 
 add-needed : tie.Need-add-needed
-add-needed c = let s = small _ _ _ _ (c .before .before .before .before .before .before .pre) (slice-octets (c .before .before .before .before .before .before .args .area .now) (c .before .before .before .before .before .shared-slice-known .given)) in omega (arith, c .before .before .pass .ensures .counts, s .short)
+add-needed c = let s = bounded _ _ _ _ (c .before .before .before .before .before .before .pre) (slice-octets (c .before .before .before .before .before .before .args .area .now) (c .before .before .before .before .before .shared-slice-known .given)) in omega (arith, c .before .before .pass .ensures .counts, s .short)
 
 same-length : tie.Need-same-length
 same-length c = search needs
@@ -21,7 +21,7 @@ returns : tie.Need-returns
 returns c = too-long _ _ _ _ (c .before .before .before .before .before .before .before .pre) _ _ _ (ap (λ (n : ℕ). 9 + n) (c .before .before .before .pass .ensures .counts)) (c .if1 .taken) (c .before .before .before .pass .ensures .holds)
 
 sheet-head-requires : tie.Need-sheet-head-requires
-sheet-head-requires c κs = let s = small _ _ _ _ (c .before .before .before .before .before .before .before .pre) (slice-octets (c .before .before .before .before .before .before .before .args .area .now) (c .before .before .before .before .before .before .shared-slice-known .given)) in (s .kind-low, s .flags-low, s .few)
+sheet-head-requires c κs = let s = bounded _ _ _ _ (c .before .before .before .before .before .before .before .pre) (slice-octets (c .before .before .before .before .before .before .before .args .area .now) (c .before .before .before .before .before .before .shared-slice-known .given)) in (s .kind-low, s .flags-low, s .few)
 
 slice-aggregate-copy-at : tie.Need-slice-aggregate-copy-at
 slice-aggregate-copy-at c = search needs
