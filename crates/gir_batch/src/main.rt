@@ -1,13 +1,17 @@
 // gir_batch: any number of records in one run, from standard input to standard output, one line a record. A record is a job octet,
 // the room and the length n of the payload, 32 bits each with the high octet first, and n octets of payload. Job `R` reads: its
-// payload is a kind octet, a flags octet and an area, its line the sheet in hexadecimal, `refused N S` or `short`. Another job, or a
-// record that passes the input's end, gives `broken K`, K being the record's number from 0, and ends the run.
+// payload is a kind octet, a flags octet and an area, its line the sheet in hexadecimal, `refused N S` or `short`. Job `W` writes:
+// its payload is a sheet, its line kind and flags in decimal and the area in hexadecimal, or `refused N S`; a sheet of more than
+// 1,048,576 octets is passed over, and its line says that it was not judged. Another job, or a record that passes the input's end,
+// gives `broken K`, K being the record's number from 0, and ends the run.
 use area::Refusal;
 use libc::STDIN_FILENO;
 use libc::STDOUT_FILENO;
 use sheet::Reading;
+use writing::Writing;
 ghost use mathlib.Core.Path.{_≡_};
 ghost use Prim.Native.Nat.{min};
+ghost use lib.ListN.{length};
 
 // How far the output buffer is used after a record, and whether it was the last.
 enum Step {
@@ -47,43 +51,31 @@ fn put_decimal(out: &mut [u8], used: usize, n: u64) -> usize {
     put(out, used, &text[..k])
 }
 
-// The upper-case hexadecimal digit of a number's low half.
-fn digit(n: u8) -> u8 {
-    let half = n % 16;
-    if half < 10 { half + 48 } else { half + 55 }
-}
-
 // Lays octets as hexadecimal text over the start of `text`, as far as it has room, and tells the digits of all of them.
 fn hex(s: &[u8], text: &mut [u8]) -> usize {
     let mut i: usize = 0;
     while i < s.len() {
         let x = s[i];
-        let pair = [digit(x / 16), digit(x)];
+        let pair = [octets::digit_text(x / 16), octets::digit_text(x)];
         octets::copy_at(text, 2 * i, &pair);
         i += 1;
     }
     2 * i
 }
 
-// The line of a sheet. No sheet is longer than 8,161 octets.
-fn put_sheet(out: &mut [u8], used: usize, sheet: &[u8]) -> usize {
+// Octets in hexadecimal, to the line's end. No sheet is longer than 8,161 octets, and no area than 4,076.
+fn put_hex(out: &mut [u8], used: usize, s: &[u8]) -> usize {
     let mut text = [0u8; 16322];
-    let n = hex(sheet, &mut text);
+    let n = hex(s, &mut text);
     let then = put(out, used, octets::part(&text, 0, n));
     put(out, then, b"\n")
 }
 
-// The line of a refusal; 3 tells the length of the whole area, of which only a part was kept.
-fn put_refusal(out: &mut [u8], used: usize, refusal: Refusal, area_length: usize) -> usize {
-    let number = refusal.number;
-    let second = refusal.second;
+// The line of a refusal.
+fn put_refusal(out: &mut [u8], used: usize, number: u32, second: usize) -> usize {
     let a = put(out, used, b"refused ");
     let b = put_decimal(out, a, number as u64);
     let c = put(out, b, b" ");
-    if number == 3 {
-        let d = put_decimal(out, c, area_length as u64);
-        return put(out, d, b"\n");
-    }
     let d = put_decimal(out, c, second as u64);
     put(out, d, b"\n")
 }
@@ -98,12 +90,16 @@ fn read_within(area: &[u8], kind: u32, flags: u32, sheet: &mut [u8], room: usize
     sheet::read(area, kind, flags, &mut sheet[..open])
 }
 
-// The octets of the area in a payload of n octets.
-fn area_length(n: usize) -> usize {
+// The second number of a refusal to read a payload of n octets; 3 tells the length of the whole area, of which only a part may be
+// kept.
+fn second_of(refusal: Refusal, n: usize) -> usize {
+    if refusal.number != 3 {
+        return refusal.second;
+    }
     if n < 2 { 0 } else { n - 2 }
 }
 
-// The line of a reading, with so much room for the sheet, of a payload that was n octets long.
+// Job `R`: the line of a reading, with so much room for the sheet, of a payload that was n octets long.
 fn put_reading(out: &mut [u8], used: usize, payload: &[u8], n: usize, room: usize) -> usize {
     if payload.len() < 2 {
         return put(out, used, b"short\n");
@@ -113,10 +109,46 @@ fn put_reading(out: &mut [u8], used: usize, payload: &[u8], n: usize, room: usiz
     let mut sheet = [0u8; 8161];
     match read_within(&payload[2..], kind, flags, &mut sheet, room) {
         Reading::Sheet(m) => {
-            return put_sheet(out, used, octets::part(&sheet, 0, m));
+            return put_hex(out, used, octets::part(&sheet, 0, m));
         }
         Reading::Refused(refusal) => {
-            return put_refusal(out, used, refusal, area_length(n));
+            return put_refusal(out, used, refusal.number, second_of(refusal, n));
+        }
+    }
+}
+
+// Writes with so much room of the buffer.
+fn write_within(sheet: &[u8], area: &mut [u8], room: usize) -> Writing {
+    let open = least(room, area.len());
+    writing::write(sheet, &mut area[..open])
+}
+
+// The line of an area, with the kind and flags that stand in its sheet.
+fn put_area(out: &mut [u8], used: usize, kind: u8, flags: u8, area: &[u8]) -> usize {
+    let a = put_decimal(out, used, kind as u64);
+    let b = put(out, a, b" ");
+    let c = put_decimal(out, b, flags as u64);
+    let d = put(out, c, b" ");
+    put_hex(out, d, area)
+}
+
+// Job `W`: the line of a writing, with so much room for the area, of a sheet that was n octets long. A sheet is judged to its end,
+// so only one that was kept whole.
+fn put_writing(out: &mut [u8], used: usize, sheet: &[u8], n: usize, room: usize) -> usize {
+    if sheet.len() < n {
+        return put(out, used, b"over 1048576 octets, not judged\n");
+    }
+    let mut area = [0u8; 4076];
+    match write_within(sheet, &mut area, room) {
+        Writing::Area {
+            length,
+            kind,
+            flags,
+        } => {
+            return put_area(out, used, kind, flags, octets::part(&area, 0, length));
+        }
+        Writing::Refused(refusal) => {
+            return put_refusal(out, used, refusal.number, refusal.second);
         }
     }
 }
@@ -147,8 +179,22 @@ fn broken(out: &mut [u8], used: usize, number: u64) -> Step {
     Step::Ended(put(out, b, b"\n"))
 }
 
-// Takes one record and puts its line. The 4,077th octet of an area is enough to know that it is too long.
-fn record(out: &mut [u8], used: usize, number: u64) -> Step {
+// Whether there is such a job.
+fn is_job(job: u8) -> bool {
+    (job == b'R') | (job == b'W')
+}
+
+// Takes a payload of n octets, of which the buffer keeps as many as it has room for; whether all of them were there.
+fn take(payload: &mut [u8], n: usize) -> bool {
+    let kept = least(n, payload.len());
+    if !fill(payload, kept) {
+        return false;
+    }
+    skip(n - kept)
+}
+
+// Takes one record and puts its line.
+fn record(out: &mut [u8], used: usize, payload: &mut [u8], number: u64) -> Step {
     let mut head = [0u8; 9];
     let got = io::read_full(STDIN_FILENO, &mut head);
     if got == 0 {
@@ -157,29 +203,38 @@ fn record(out: &mut [u8], used: usize, number: u64) -> Step {
     if got < 9 {
         return broken(out, used, number);
     }
-    if head[0] != b'R' {
+    let job = head[0];
+    if !is_job(job) {
         return broken(out, used, number);
     }
     let room = octets::u32_at(&head, 1) as usize;
     let n = octets::u32_at(&head, 5) as usize;
-    let mut payload = [0u8; 4079];
-    let kept = least(n, 4079);
-    if !fill(&mut payload, kept) {
+    if !take(payload, n) {
         return broken(out, used, number);
     }
-    if !skip(n - kept) {
-        return broken(out, used, number);
+    let kept = octets::part(payload, 0, n);
+    if job == b'R' {
+        return Step::Went(put_reading(out, used, kept, n, room));
     }
-    Step::Went(put_reading(out, used, octets::part(&payload, 0, kept), n, room))
+    Step::Went(put_writing(out, used, kept, n, room))
+}
+
+// Room for a payload: zeros.
+fn payload_buffer() -> [u8; 1048576]
+    ensures { λ r. ⌜ 1048576 ≡ length r ⌝ }
+{
+    [0; 1048576]
 }
 
 fn main() {
     let mut space = io::large_buffer();
     let out: &mut [u8] = &mut space;
+    let mut kept = payload_buffer();
+    let payload: &mut [u8] = &mut kept;
     let mut used: usize = 0;
     let mut number: u64 = 0;
     while number < u64::MAX {
-        match record(out, used, number) {
+        match record(out, used, payload, number) {
             Step::Went(then) => {
                 used = then;
                 number += 1;

@@ -29,7 +29,7 @@ pub pair-written : (l d out : List ℕ) (i high low x : ℕ) → Written (pack l
 pair-written l d out i high low x w h p q r =
     written-more (pack l) d out i x w (omega (arith, pack-length l)) (r ∙ ap₂ (λ (a b : ℕ). a * 16 + b) p q ∙ sym (pair-at l i h))
 
-map-at : (f : ℕ → ℕ) (l : List ℕ) (k d e : ℕ) → k < length l → getD (map f l) k e ≡ f (getD l k d)
+pub map-at : (f : ℕ → ℕ) (l : List ℕ) (k d e : ℕ) → k < length l → getD (map f l) k e ≡ f (getD l k d)
 map-at f [] k d e h = absurd (omega arith)
 map-at f (x ∷ l) zero d e h = refl
 map-at f (x ∷ l) (suc k) d e h = map-at f l k d e (omega arith)

@@ -4,3 +4,4 @@ pub mod Overs
 pub mod EachOne
 pub mod Halves
 pub mod DigitStrings
+pub mod Unpacking

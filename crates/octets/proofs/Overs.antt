@@ -112,6 +112,32 @@ laid-behind s t d held at n e h =
     ∙ laid-fits at t (over s d) (omega arith)
     ∙ rw (take-at s (drop (length s) d) at n, drop-at s (drop (length s) d) at n, drop-drop (length t) (length s) d, length-append s t, append-assoc s t)
 
+-- Laid one behind the other, two pieces stand as one.
+pub laid-two : (at n : ℕ) (s t d : List ℕ) → length s ≡ n → at + (n + length t) ≤ length d → laidAt (at + n) t (laidAt at s d) ≡ laidAt at (s ++ t) d
+unfolding over
+laid-two at n s t d size fits =
+    let front : List ℕ = take at d in
+    let rest : List ℕ = drop (length s) (drop at d) in
+    let f : length front ≡ at = length-take-le at d (omega arith) in
+    let first : laidAt at s d ≡ front ++ (s ++ rest) = laid-fits at s d (omega arith) in
+    let fs : length (front ++ s) ≡ at + n = length-append front s ∙ omega arith in
+    let whole : laidAt at s d ≡ (front ++ s) ++ rest = first ∙ sym (append-assoc front s rest) in
+    let st : length (s ++ t) ≡ n + length t = length-append s t ∙ omega arith in
+    laid-fits (at + n) t (laidAt at s d) (omega (arith, laid-length at s d))
+    ∙ rw (whole, take-at (front ++ s) rest (at + n) fs, drop-at (front ++ s) rest (at + n) fs, drop-drop (length t) (length s) (drop at d))
+    (append-assoc front s (t ++ drop (length s + length t) (drop at d))
+    ∙ ap (λ (x : List ℕ). front ++ x) (sym (append-assoc s t (drop (length s + length t) (drop at d))))
+    ∙ ap (λ (k : ℕ). front ++ ((s ++ t) ++ drop k (drop at d))) (sym (length-append s t))
+    ∙ sym (laid-fits at (s ++ t) d (omega arith)))
+
+-- what is laid, by another name
+pub laid-as : (at : ℕ) (s t d out : List ℕ) → t ≡ s → out ≡ laidAt at s d → out ≡ laidAt at t d
+laid-as at s t d out e h = h ∙ rw e
+
+-- a buffer has the room that it had before
+pub laid-keeps : (at : ℕ) (s d out : List ℕ) (n : ℕ) → out ≡ laidAt at s d → n ≤ length d → n ≤ length out
+laid-keeps at s d out n e h = omega (arith, ap length e, laid-length at s d)
+
 -- ---- What a writer at a place answers
 
 -- fit is the test that the n octets of s fit

@@ -1,10 +1,11 @@
 -- "A digit string is at most fifteen digits together with their count": read from a text, and packed two to an octet.
 -- Assumes nothing.
 use Prim.Native.Nat.{ℕ, _%_, min}
-use mathlib.Core.Bool.{true, false, cond, _&&_}
+use mathlib.Core.Bool.{Bool, true, false, cond, _&&_}
 use mathlib.Core.List.{List, [], map}
+use lib.Dec.{eqb}
 use lib.ListN.{length, take, replicate}
-use Rattle.meaning.specs.Octets.{between, all, isDigit, digitValue, values, pack, packedLength}
+use Rattle.meaning.specs.Octets.{between, all, same, isDigit, digitValue, values, text, pack, unpack, packedLength}
 use Rattle.meaning.specs.Answers.{over}
 use Rattle.octets.specs.declared.Digits.{Digits}
 use Rattle.octets.specs.declared.Got.{Got}
@@ -44,3 +45,7 @@ packedOf d =
       octets = padded 8 (pack (heldOf (min (d .len) 15) (d .octets)));
       len = packedLength (min (d .len) 15);
     }
+
+-- the way back: octets are so many decimal digits, two to an octet, and nothing else
+unfoldable pub packedDigits : (count : ℕ) → List ℕ → Bool
+packedDigits c s = eqb (length s) (packedLength c) && (all isDigit (text (unpack c s)) && same (pack (unpack c s)) s)

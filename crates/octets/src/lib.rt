@@ -1,13 +1,14 @@
 // Octets, as document 01 takes them for granted: parts of a slice, numbers with the high octet first, octets laid over a
 // buffer, digit strings, and digits two to an octet. Each public function takes any arguments.
 ghost use mathlib.Core.Path.{_≡_};
-ghost use Prim.Native.Nat.{_+_, _*_, _%_, _<_, _≤_, min};
-ghost use lib.Dec.{leb};
+ghost use Prim.Native.Nat.{_+_, _*_, _/_, _%_, _<_, _≤_, min};
+ghost use mathlib.Core.Bool.{_&&_};
+ghost use lib.Dec.{eqb, leb};
 ghost use lib.ListN.{length, getD};
-ghost use Rattle.meaning.specs.Octets.{all, numberOf, octetsOf, pack, packedLength, isDigit, isHex, digitValue};
+ghost use Rattle.meaning.specs.Octets.{all, numberOf, octetsOf, pack, unpack, packedLength, isDigit, isHex, digitValue, digitText, text};
 ghost use Rattle.meaning.specs.Answers.{over};
 ghost use Rattle.octets.specs.Parts.{partOf, Numbered, Laid};
-ghost use Rattle.octets.specs.DigitStrings.{halves, padded, heldOf, noDigits, gotOf, packedOf};
+ghost use Rattle.octets.specs.DigitStrings.{halves, padded, heldOf, noDigits, gotOf, packedOf, packedDigits};
 
 // "at most fifteen digits together with their count": the digits' values, with zeros behind them.
 pub struct Digits {
@@ -344,5 +345,93 @@ pub fn pack_at(buf: &mut [u8], at: usize, text: &[u8]) -> bool
         return false;
     }
     pack_text(&mut buf[at..], text);
+    true
+}
+
+// The digit that stands for a number's low half, `A` for 10.
+pub fn digit_text(n: u8) -> u8
+    ensures { λ r. ⌜ r ≡ digitText (n % 16) ⌝ }
+{
+    let half = n % 16;
+    if half <= 9 {
+        return half + 48;
+    }
+    half + 55
+}
+
+// Whether both halves of an octet are decimal digits.
+fn two_digits(x: u8) -> bool
+    ensures { λ r. ⌜ r ≡ leb (x / 16) 9 && leb (x % 16) 9 ⌝ }
+{
+    (x / 16 <= 9) & (x % 16 <= 9)
+}
+
+// Whether an octet is a decimal digit and the 15 behind an odd last one.
+fn last_digit(x: u8) -> bool
+    ensures { λ r. ⌜ r ≡ leb (x / 16) 9 && eqb (x % 16) 15 ⌝ }
+{
+    (x / 16 <= 9) & (x % 16 == 15)
+}
+
+// Whether `s` is `count` decimal digits two to an octet, "first in the high half; an odd last low half is 15".
+pub fn are_packed(s: &[u8], count: usize) -> bool
+    ensures { λ r. ⌜ r ≡ packedDigits count (now (s .entry)) ⌝ }
+{
+    if s.len() != packed_len(count) {
+        return false;
+    }
+    let pairs = count / 2;
+    let mut i: usize = 0;
+    while i < pairs {
+        if !two_digits(s[i]) {
+            return false;
+        }
+        i += 1;
+    }
+    if i < s.len() {
+        return last_digit(s[i]);
+    }
+    true
+}
+
+// The halves of `octets` octets, or `count` of them.
+fn half_count(octets: usize, count: usize) -> usize
+    ensures { λ r. ⌜ r ≡ min count (2 * octets) ⌝ }
+{
+    if count / 2 < octets {
+        count
+    } else {
+        2 * octets
+    }
+}
+
+// Writes the text of the first `n` halves of `s` over the start of `buf`.
+fn unpack_text(buf: &mut [u8], s: &[u8], n: usize)
+    requires { ⌜ (n ≤ length (now buf)) × (n ≤ 2 * length (now s)) ⌝ }
+    ensures { λ _. ⌜ now (buf .exit) ≡ over (text (unpack n (now (s .entry)))) (now (buf .entry)) ⌝ }
+{
+    let pairs = n / 2;
+    let mut i: usize = 0;
+    while i < pairs {
+        let x = s[i];
+        buf[2 * i] = digit_text(x / 16);
+        buf[2 * i + 1] = digit_text(x);
+        i += 1;
+    }
+    if 2 * i < n {
+        buf[2 * i] = digit_text(s[i] / 16);
+    }
+}
+
+// Writes the text of the first `count` halves of `s` over `buf` from the place `at` on and says true, if it fits; else changes
+// nothing and says false.
+pub fn unpack_at(buf: &mut [u8], at: usize, s: &[u8], count: usize) -> bool
+    ensures { λ r. ⌜ Laid at (text (unpack count (now (s .entry)))) (now (buf .entry)) r (now (buf .exit)) ⌝ }
+{
+    let n = half_count(s.len(), count);
+    if !fits(buf.len(), at, n) {
+        return false;
+    }
+    unpack_text(&mut buf[at..], s, n);
     true
 }

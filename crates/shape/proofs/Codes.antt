@@ -123,7 +123,7 @@ past-before : (before : Type 0) (c : ℕ) (l : List ℕ) → Past before c l →
 past-before before c [] p = p
 past-before before c (x ∷ l) p = past-before (before × (c ≡ x → ⊥)) c l p .0
 
-none-among : (before : Type 0) (l : List Shape) (c : ℕ) → Past before c (map codeOf l) → shapeAmong l c ≡ free
+pub none-among : (before : Type 0) (l : List Shape) (c : ℕ) → Past before c (map codeOf l) → shapeAmong l c ≡ free
 none-among before [] c p = refl
 none-among before (s ∷ l) c p =
     rw (ne-eqb c (codeOf s) (past-before (before × (c ≡ codeOf s → ⊥)) c (map codeOf l) p .1))

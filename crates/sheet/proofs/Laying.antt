@@ -1,4 +1,4 @@
--- Octets laid over a buffer from a place on: by a test, and two pieces one behind the other. Assumes nothing.
+-- What the writers of an item and of a sheet's head lay over a buffer. Assumes nothing.
 use mathlib.Core.Path.{_≡_, refl, sym, ap, _∙_}
 use mathlib.Core.Bool.{Bool, true, false, cond}
 use mathlib.Core.List.{List, [], _∷_, _++_, append-assoc}
@@ -14,7 +14,7 @@ use Rattle.octets.specs.Parts.{partOf, laidAt}
 use Rattle.octets.specs.DigitStrings.{halves, packedOf}
 use Rattle.octets.specs.declared.Digits.{Digits}
 use Rattle.octets.specs.declared.Packed.{Packed}
-use Rattle.octets.proofs.Overs.{laid-fits, laid-length}
+use Rattle.octets.proofs.Overs.{laid-two}
 use Rattle.octets.proofs.Halves.{halves-packed}
 use Rattle.area.specs.declared.Part.{Part}
 use Rattle.shape.specs.declared.Item.{Item}
@@ -28,28 +28,6 @@ laid-if b at s t d out e h = h ∙ rw e
 
 pub laid-else : (b : Bool) (at : ℕ) (s t d out : List ℕ) → b ≡ false → out ≡ laidAt at t d → out ≡ laidAt at (cond b s t) d
 laid-else b at s t d out e h = h ∙ rw e
-
--- what is laid, by another name
-pub laid-as : (at : ℕ) (s t d out : List ℕ) → t ≡ s → out ≡ laidAt at s d → out ≡ laidAt at t d
-laid-as at s t d out e h = h ∙ rw e
-
--- Laid one behind the other, two pieces stand as one.
-pub laid-two : (at n : ℕ) (s t d : List ℕ) → length s ≡ n → at + (n + length t) ≤ length d → laidAt (at + n) t (laidAt at s d) ≡ laidAt at (s ++ t) d
-unfolding over
-laid-two at n s t d size fits =
-    let front : List ℕ = take at d in
-    let rest : List ℕ = drop (length s) (drop at d) in
-    let f : length front ≡ at = length-take-le at d (omega arith) in
-    let first : laidAt at s d ≡ front ++ (s ++ rest) = laid-fits at s d (omega arith) in
-    let fs : length (front ++ s) ≡ at + n = length-append front s ∙ omega arith in
-    let whole : laidAt at s d ≡ (front ++ s) ++ rest = first ∙ sym (append-assoc front s rest) in
-    let st : length (s ++ t) ≡ n + length t = length-append s t ∙ omega arith in
-    laid-fits (at + n) t (laidAt at s d) (omega (arith, laid-length at s d))
-    ∙ rw (whole, take-at (front ++ s) rest (at + n) fs, drop-at (front ++ s) rest (at + n) fs, drop-drop (length t) (length s) (drop at d))
-    (append-assoc front s (t ++ drop (length s + length t) (drop at d))
-    ∙ ap (λ (x : List ℕ). front ++ x) (sym (append-assoc s t (drop (length s + length t) (drop at d))))
-    ∙ ap (λ (k : ℕ). front ++ ((s ++ t) ++ drop k (drop at d))) (sym (length-append s t))
-    ∙ sym (laid-fits at (s ++ t) d (omega arith)))
 
 -- ---- The forms of plain octets
 
@@ -140,9 +118,6 @@ filled fill s d out e h = h ∙ rw e
 pub unfilled : (fill : Bool) (s d : List ℕ) → fill ≡ false → d ≡ filledBy fill s d
 unfolding filledBy
 unfilled fill s d e = rw e
-
-pub laid-room : (at : ℕ) (s d out : List ℕ) (n : ℕ) → out ≡ laidAt at s d → n ≤ length d → n ≤ length out
-laid-room at s d out n e h = omega (arith, ap length e, laid-length at s d)
 
 -- the head of a sheet, with the number of items in two octets
 pub head-laid : (kind flags count : ℕ) (many : List ℕ) → many ≡ octetsOf 2 count → 71 ∷ 73 ∷ 82 ∷ 0 ∷ 1 ∷ kind ∷ flags ∷ getD many 0 0 ∷ getD many 1 0 ∷ [] ≡ sheetHead kind flags count

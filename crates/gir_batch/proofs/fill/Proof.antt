@@ -1,3 +1,4 @@
+-- The part that is lent is as long as was asked for. Assumes nothing.
 use Prim.Native.Nat.{_≤_}
 use borrow.Author.Needs.{needs}
 use lib.ListN.{length}

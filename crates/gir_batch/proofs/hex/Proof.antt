@@ -18,11 +18,11 @@ loop-holds c = search needs
 shared-slice-read-x : tie.Need-shared-slice-read-x Inv-loop μ-loop
 shared-slice-read-x c = search needs
 
-digit-requires : tie.Need-digit-requires Inv-loop μ-loop
-digit-requires c κs = search needs
+digit-text-requires : tie.Need-digit-text-requires Inv-loop μ-loop
+digit-text-requires c κs = search needs
 
-digit-requires-2 : tie.Need-digit-requires-2 Inv-loop μ-loop
-digit-requires-2 c κs = search needs
+digit-text-requires-2 : tie.Need-digit-text-requires-2 Inv-loop μ-loop
+digit-text-requires-2 c κs = search needs
 
 mul-copy-at : tie.Need-mul-copy-at Inv-loop μ-loop
 mul-copy-at c = search needs
@@ -59,8 +59,8 @@ hex-spec =
     μ-loop
     loop-holds
     shared-slice-read-x
-    digit-requires
-    digit-requires-2
+    digit-text-requires
+    digit-text-requires-2
     mul-copy-at
     slice-aggregate-copy-at
     copy-at-requires

@@ -5,16 +5,22 @@ use Rattle.gir_batch.proofs.main.Statement.{statement}
 use Rattle.gir_batch.proofs.main.Tie as tie
 
 abbrev Inv-loop : tie.InvT-loop
-Inv-loop out₀ used₀ number₀ out used number = number < 2 ^ 64
+Inv-loop out₀ payload₀ used₀ number₀ out payload used number = number < 2 ^ 64
 
 abbrev μ-loop : tie.MeasureT-loop
-μ-loop out₀ used₀ number₀ out used number = 2 ^ 64 - number
+μ-loop out₀ payload₀ used₀ number₀ out payload used number = 2 ^ 64 - number
 
 large-buffer-requires : tie.Need-large-buffer-requires Inv-loop μ-loop
 large-buffer-requires c κs = search needs
 
 slice-aggregate-out : tie.Need-slice-aggregate-out Inv-loop μ-loop
 slice-aggregate-out c = search needs
+
+payload-buffer-requires : tie.Need-payload-buffer-requires Inv-loop μ-loop
+payload-buffer-requires c κs = search needs
+
+slice-aggregate-payload : tie.Need-slice-aggregate-payload Inv-loop μ-loop
+slice-aggregate-payload c = search needs
 
 loop-holds : tie.Need-loop-holds Inv-loop μ-loop
 loop-holds c = search needs
@@ -63,6 +69,8 @@ main-spec =
     μ-loop
     large-buffer-requires
     slice-aggregate-out
+    payload-buffer-requires
+    slice-aggregate-payload
     loop-holds
     record-requires
     enum-known-then

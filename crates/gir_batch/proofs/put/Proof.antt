@@ -1,3 +1,4 @@
+-- What was copied fitted, so the sum does too. Assumes nothing.
 use borrow.Author.Needs.{needs}
 use mathlib.Core.Path.{sym, _∙_}
 use native.Mathlib.Omega.{arith}

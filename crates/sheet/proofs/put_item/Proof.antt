@@ -2,7 +2,8 @@
 use borrow.Author.Needs.{needs}
 use borrow.Author.Tests.{not-true, not-false}
 use native.Mathlib.Omega.{arith}
-use Rattle.sheet.proofs.Laying.{item-laid, item-room, laid-room, filled, unfilled}
+use Rattle.octets.proofs.Overs.{laid-keeps}
+use Rattle.sheet.proofs.Laying.{item-laid, item-room, filled, unfilled}
 use Rattle.sheet.proofs.put_item.Statement.{statement}
 use Rattle.sheet.proofs.put_item.Tie as tie
 
@@ -22,7 +23,7 @@ add-put-stored : tie.Need-add-put-stored
 add-put-stored c = omega (arith, item-room _ _ _ _ _ (c .before .before .before .before .before .before .before .before .before .before .pre .1) (not-false _ (c .before .before .before .before .before .before .before .if1 .left)))
 
 put-stored-requires : tie.Need-put-stored-requires
-put-stored-requires c κs = laid-room _ _ _ _ _ (c .before .before .before .copy-at .ensures .holds) (item-room _ _ _ _ _ (c .before .before .before .before .before .before .before .before .before .before .pre .1) (not-false _ (c .before .before .before .before .before .before .before .if1 .left)))
+put-stored-requires c κs = laid-keeps _ _ _ _ _ (c .before .before .before .copy-at .ensures .holds) (item-room _ _ _ _ _ (c .before .before .before .before .before .before .before .before .before .before .pre .1) (not-false _ (c .before .before .before .before .before .before .before .if1 .left)))
 
 same-length : tie.Need-same-length
 same-length c = search needs

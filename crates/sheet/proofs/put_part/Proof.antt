@@ -1,6 +1,7 @@
 -- `sheet::put_part` meets its contract. Assumes nothing.
 use borrow.Author.Needs.{needs}
-use Rattle.sheet.proofs.Laying.{laid-as, part-5, part-6, part-plain, qos-room}
+use Rattle.octets.proofs.Overs.{laid-as}
+use Rattle.sheet.proofs.Laying.{part-5, part-6, part-plain, qos-room}
 use Rattle.sheet.proofs.put_part.Statement.{statement}
 use Rattle.sheet.proofs.put_part.Tie as tie
 

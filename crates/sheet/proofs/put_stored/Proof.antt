@@ -1,6 +1,7 @@
 -- `sheet::put_stored` meets its contract. Assumes nothing.
 use borrow.Author.Needs.{needs}
-use Rattle.sheet.proofs.Laying.{laid-as, number-stored, address-stored, digits-stored, part-stored, part-room}
+use Rattle.octets.proofs.Overs.{laid-as}
+use Rattle.sheet.proofs.Laying.{number-stored, address-stored, digits-stored, part-stored, part-room}
 use Rattle.sheet.proofs.put_stored.Statement.{statement}
 use Rattle.sheet.proofs.put_stored.Tie as tie
 

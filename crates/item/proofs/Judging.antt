@@ -1,0 +1,149 @@
+-- What the tests of an item say, one answer at a time. Assumes nothing.
+use mathlib.Core.Path.{_≡_, refl, sym, ap, subst, _∙_}
+use mathlib.Core.Bool.{Bool, true, false, cond, not, _&&_}
+use mathlib.Core.List.{List, [], _∷_, map}
+use Prim.Native.Nat.{ℕ, _+_, _-_, _/_, _<_, _≤_}
+use native.Mathlib.Omega.{arith}
+use lib.Dec.{T, eqb, leb, ltb}
+use borrow.Author.Tests.{lt-ltb, le-ltb, le-leb, lt-leb, eq-eqb, ne-eqb, eqb-true, eqb-false, ltb-true, ltb-false}
+use lib.ListN.{length, getD}
+use Rattle.meaning.specs.Octets.{numberOf}
+use Rattle.meaning.specs.Framing.{gpp}
+use Rattle.meaning.specs.Shapes.{Shape, number, address, digits, hexadecimal, qos, hexDigit, anyOctet, decimalDigit, atLeast, exactly, blocks, free, shapeOf}
+use Rattle.meaning.specs.Sheet.{subOf, formOf, form, carries, numberIn, storedLength}
+use Rattle.octets.specs.Parts.{partOf}
+use Rattle.shape.specs.Codes.{codeOf, shapeAmong, shapeBy}
+use Rattle.shape.proofs.Codes.{Past, none-among, shape-back, form-in-code}
+use Rattle.item.specs.Stands.{otherVendor, raw, held, shaped, standsFor}
+use Rattle.item.proofs.Standing.{raw-stands, shaped-stands}
+
+-- ---- Another vendor's
+
+pub vendor-short : (v : List ℕ) → length v < 5 → false ≡ otherVendor v
+unfolding otherVendor
+vendor-short v h = rw (lt-leb 5 (length v) h)
+
+pub vendor-id : (v : List ℕ) (id : ℕ) → 5 ≤ length v → id ≡ numberOf (partOf v 0 4) → not (eqb id 10415) ≡ otherVendor v
+unfolding otherVendor partOf
+vendor-id v id h e = rw (le-leb 5 (length v) h, e)
+
+-- ---- What an attribute carries
+
+module _ (n : ℕ) (v : List ℕ) where
+  pub carries-3gpp : 256 ≤ n → leb (length v) 246 ≡ carries n v
+  unfolding carries
+  carries-3gpp h = rw (le-ltb n 256 h)
+
+  pub carries-long : n < 256 → 253 < length v → false ≡ carries n v
+  unfolding carries
+  carries-long h g = rw (lt-ltb n 256 h, lt-leb (length v) 253 g)
+
+  pub carries-plain : n < 256 → length v ≤ 253 → (n ≡ 26 → ⊥) → true ≡ carries n v
+  unfolding carries
+  carries-plain h g e = rw (lt-ltb n 256 h, le-leb (length v) 253 g, ne-eqb n 26 e)
+
+  pub carries-vendor : length v ≤ 253 → n ≡ 26 → otherVendor v ≡ carries n v
+  unfolding carries otherVendor
+  carries-vendor g e = rw (e, le-leb (length v) 253 g)
+
+-- ---- The number of a head
+
+module _ (t s f : ℕ) where
+  pub number-plain : (t ≡ 26 → ⊥) → t ≡ numberIn t s f
+  number-plain h = rw (ne-eqb t 26 h)
+
+  pub number-vendor : t ≡ 26 → f ≡ 0 → 26 ≡ numberIn t s f
+  number-vendor e g = rw (e, g)
+
+  pub number-3gpp : t ≡ 26 → (f ≡ 0 → ⊥) → 256 + s ≡ numberIn t s f
+  number-3gpp e g = rw (e, ne-eqb f 0 g)
+
+-- ---- Forms 0 and 1
+
+module _ (n f : ℕ) (v : List ℕ) (r : ℕ) (is : r ≡ form n v) where
+  pub raw-other : (r ≡ f → ⊥) → false ≡ raw n f v
+  unfolding raw
+  raw-other h = rw (ne-eqb (form n v) f (λ e. h (is ∙ e)))
+
+  pub raw-form : r ≡ f → carries n v ≡ raw n f v
+  unfolding raw
+  raw-form e = rw (eq-eqb (form n v) f (sym is ∙ e))
+
+-- ---- Forms 2 to 7
+
+module _ (n f c : ℕ) (st : List ℕ) (code : ℕ) (is : code ≡ codeOf (shapeOf n)) where
+  own : code / 10 ≡ formOf (shapeOf n)
+  own = ap (λ (k : ℕ). k / 10) is ∙ form-in-code (shapeOf n)
+
+  pub shaped-other : (code / 10 ≡ f → ⊥) → false ≡ shaped n f c st
+  unfolding shaped
+  shaped-other h = rw (ne-eqb (formOf (shapeOf n)) f (λ e. h (own ∙ e)))
+
+  pub shaped-held : code / 10 ≡ f → held (shapeBy code) c st ≡ shaped n f c st
+  unfolding shaped
+  shaped-held e = rw (eq-eqb (formOf (shapeOf n)) f (sym own ∙ e), ap shapeBy is ∙ shape-back n)
+
+-- the shapes that have a form of their own, in the order of their codes
+abbrev formed : List Shape
+formed = number ∷ address ∷ digits 1 15 ∷ digits 5 6 ∷ hexadecimal ∷ qos ∷ hexDigit ∷ anyOctet ∷ decimalDigit ∷ []
+
+-- a code that none of them has holds nothing
+pub none-held : (code c : ℕ) (st : List ℕ) → Past (Unit {0}) code (map codeOf formed) → false ≡ held (shapeBy code) c st
+unfolding shapeBy codeOf held formOf
+none-held code c st p = go (eqb code 1) (eqb code 2) (eqb code 3) (eqb code 4)
+  where
+    go : (a b d e : Bool) → false ≡ held (cond a (atLeast 1) (cond b (atLeast 5) (cond d (exactly 17) (cond e blocks (shapeAmong formed code))))) c st
+    go true b d e = refl
+    go false true d e = refl
+    go false false true e = refl
+    go false false false true = refl
+    go false false false false = rw (none-among (Unit {0}) formed code p)
+
+-- ---- The item
+
+not-both : {X : Type 0} → true ≡ false → X
+not-both e = absurd (subst T e tt)
+
+module _ (t s f c : ℕ) (st : List ℕ) (octet : t < 256) (long : length st ≡ storedLength f c) (n : ℕ) (is : n ≡ numberIn t s f) where
+  -- the number of a 3GPP item tells its sub-attribute number
+  sub-3gpp : 256 ≤ n → n ≡ gpp s
+  sub-3gpp h = go (eqb t 26 && not (eqb f 0)) refl
+    where
+      go : (b : Bool) → eqb t 26 && not (eqb f 0) ≡ b → n ≡ gpp s
+      go true e = is ∙ rw e
+      go false e = absurd (let g : n ≡ t = is ∙ rw e in omega arith)
+
+  sub-fits : ltb n 256 && not (eqb s 0) ≡ false → eqb (subOf n) s ≡ true
+  sub-fits h = go (ltb n 256) (eqb s 0) refl refl h
+    where
+      go : (a b : Bool) → ltb n 256 ≡ a → eqb s 0 ≡ b → a && not b ≡ false → eqb (cond a 0 (n - 256)) s ≡ true
+      go true true p q e = eq-eqb 0 s (sym (eqb-true s 0 q))
+      go true false p q e = not-both e
+      go false b p q e = eq-eqb (n - 256) s (omega (arith, sub-3gpp (ltb-false n 256 p)))
+
+  sub-bad : ltb n 256 && not (eqb s 0) ≡ true → eqb (subOf n) s ≡ false
+  sub-bad h = go (ltb n 256) (eqb s 0) refl h
+    where
+      go : (a b : Bool) → eqb s 0 ≡ b → a && not b ≡ true → eqb (cond a 0 (n - 256)) s ≡ false
+      go true true q e = not-both (sym e)
+      go true false q e = ne-eqb 0 s (λ g. eqb-false s 0 q (sym g))
+      go false b q e = not-both (sym e)
+
+  by-raw : f < 2 → standsFor t s f c st ≡ eqb (subOf n) s && raw n f st
+  by-raw low = raw-stands t s f c st octet long (omega arith) ∙ ap (λ (k : ℕ). eqb (subOf k) s && raw k f st) (sym is)
+
+  by-shape : 2 ≤ f → standsFor t s f c st ≡ eqb (subOf n) s && shaped n f c st
+  by-shape high = shaped-stands t s f c st octet long high ∙ ap (λ (k : ℕ). eqb (subOf k) s && shaped k f c st) (sym is)
+
+  pub sub-wrong : ltb n 256 && not (eqb s 0) ≡ true → false ≡ standsFor t s f c st
+  sub-wrong h = go (ltb f 2) refl
+    where
+      go : (b : Bool) → ltb f 2 ≡ b → false ≡ standsFor t s f c st
+      go true e = sym (by-raw (ltb-true f 2 e) ∙ ap (λ (a : Bool). a && raw n f st) (sub-bad h))
+      go false e = sym (by-shape (ltb-false f 2 e) ∙ ap (λ (a : Bool). a && shaped n f c st) (sub-bad h))
+
+  pub stands-raw : ltb n 256 && not (eqb s 0) ≡ false → f < 2 → raw n f st ≡ standsFor t s f c st
+  stands-raw h low = sym (by-raw low ∙ ap (λ (a : Bool). a && raw n f st) (sub-fits h))
+
+  pub stands-shaped : ltb n 256 && not (eqb s 0) ≡ false → 2 ≤ f → shaped n f c st ≡ standsFor t s f c st
+  stands-shaped h high = sym (by-shape high ∙ ap (λ (a : Bool). a && shaped n f c st) (sub-fits h))

@@ -1,0 +1,33 @@
+-- 23, "an item that no readable attribute gives", of an item whose head and stored octets are there: by its form, and for form 2 to 7
+-- by the shape of its number. Assumes nothing.
+use Prim.Native.Nat.{ℕ}
+use mathlib.Core.Bool.{Bool, not, _&&_}
+use mathlib.Core.List.{List, _∷_}
+use lib.Dec.{eqb, leb}
+use lib.ListN.{length, take}
+use Rattle.meaning.specs.Octets.{same, numberOf}
+use Rattle.meaning.specs.Framing.{vendor3gpp}
+use Rattle.meaning.specs.Shapes.{Shape, shapeOf, meets}
+use Rattle.meaning.specs.Sheet.{formOf, storedOf, valueOf, form, item, carries, numberIn, valueIn}
+
+-- some readable attribute gives the item of this head and these stored octets
+unfoldable pub standsFor : (type sub form count : ℕ) → List ℕ → Bool
+standsFor t s f c st =
+    carries (numberIn t s f) (valueIn (numberIn t s f) f c st)
+    && same (item (numberIn t s f) (valueIn (numberIn t s f) f c st)) (t ∷ s ∷ f ∷ c ∷ st)
+
+-- "another vendor's type 26, id included"
+unfoldable pub otherVendor : List ℕ → Bool
+otherVendor v = leb 5 (length v) && not (eqb (numberOf (take 4 v)) vendor3gpp)
+
+-- a value that stands as it is, in form 0 or 1
+unfoldable pub raw : (number form : ℕ) → List ℕ → Bool
+raw n f v = eqb (form n v) f && carries n v
+
+-- a shape has a form of its own, and the octets are what it stores of the value that they stand for
+unfoldable pub held : Shape → (count : ℕ) → List ℕ → Bool
+held s c st = leb 2 (formOf s) && (meets s (valueOf s c st) && same (storedOf s (valueOf s c st)) st)
+
+-- the same of the shape of a number, whose form is this one
+unfoldable pub shaped : (number form count : ℕ) → List ℕ → Bool
+shaped n f c st = eqb (formOf (shapeOf n)) f && held (shapeOf n) c st

@@ -1,0 +1,116 @@
+-- The octets passed are written, two digits each; an odd last digit comes behind them. Assumes nothing.
+use borrow.Author.Needs.{needs}
+use Prim.Native.Nat.{_*_, _-_, _≤_}
+use native.Mathlib.Omega.{arith}
+use lib.ListN.{length-set}
+use Rattle.meaning.specs.Octets.{unpack, text}
+use Rattle.octets.proofs.Overs.{Written, written-none, written-all}
+use Rattle.octets.proofs.Unpacking.{unpacked-length, high-written, two-written}
+use Rattle.octets.proofs.unpack_text.Statement.{statement}
+use Rattle.octets.proofs.unpack_text.Tie as tie
+
+abbrev Inv-loop : tie.InvT-loop
+Inv-loop buf₀ s n pairs i₀ buf i = Written (text (unpack n s)) buf₀ buf (2 * i) × (i ≤ pairs)
+
+abbrev μ-loop : tie.MeasureT-loop
+μ-loop buf₀ s n pairs i₀ buf i = pairs - i
+
+loop-holds : tie.Need-loop-holds Inv-loop μ-loop
+loop-holds c =
+    let a = c .before .before .args in
+    (written-none _ _ (omega (arith, unpacked-length (a .n) (a .s .now))), omega arith)
+
+shared-slice-read-x : tie.Need-shared-slice-read-x Inv-loop μ-loop
+shared-slice-read-x c = search needs
+
+digit-text-requires : tie.Need-digit-text-requires Inv-loop μ-loop
+digit-text-requires c κs = search needs
+
+mul-buf : tie.Need-mul-buf Inv-loop μ-loop
+mul-buf c = search needs
+
+slice-write-buf : tie.Need-slice-write-buf Inv-loop μ-loop
+slice-write-buf c = search needs
+
+digit-text-requires-2 : tie.Need-digit-text-requires-2 Inv-loop μ-loop
+digit-text-requires-2 c κs = search needs
+
+mul-buf-2 : tie.Need-mul-buf-2 Inv-loop μ-loop
+mul-buf-2 c = search needs
+
+add-buf : tie.Need-add-buf Inv-loop μ-loop
+add-buf c = search needs
+
+slice-write-buf-2 : tie.Need-slice-write-buf-2 Inv-loop μ-loop
+slice-write-buf-2 c = simp length-set (omega arith)
+
+add-i : tie.Need-add-i Inv-loop μ-loop
+add-i c = search needs
+
+loop-less : tie.Need-loop-less Inv-loop μ-loop
+loop-less c = search needs
+
+loop-again : tie.Need-loop-again Inv-loop μ-loop
+loop-again c =
+    let u = c .before .before .before .before .loop in
+    (two-written _ _ _ _ _ (u .inv .0) (omega arith) (omega (arith, c .before .before .shared-slice-known2 .given (u .i))) _ _ (omega arith) (c .before .digit-text .ensures) (c .digit-text2 .ensures), omega arith)
+
+mul-if1 : tie.Need-mul-if1 Inv-loop μ-loop
+mul-if1 c = search needs
+
+shared-slice-read-digit-text : tie.Need-shared-slice-read-digit-text Inv-loop μ-loop
+shared-slice-read-digit-text c = search needs
+
+digit-text-requires-3 : tie.Need-digit-text-requires-3 Inv-loop μ-loop
+digit-text-requires-3 c κs = search needs
+
+mul-buf-3 : tie.Need-mul-buf-3 Inv-loop μ-loop
+mul-buf-3 c = search needs
+
+slice-write-buf-3 : tie.Need-slice-write-buf-3 Inv-loop μ-loop
+slice-write-buf-3 c = search needs
+
+same-length : tie.Need-same-length Inv-loop μ-loop
+same-length c = search needs
+
+returns : tie.Need-returns Inv-loop μ-loop
+returns c =
+    let u = c .before .before .before .before .loop in
+    let a = c .before .before .before .before .before .before .before .args in
+    written-all _ _ _ _ (high-written _ _ _ _ _ (u .inv .0) (omega arith) (omega (arith, c .before .shared-slice-known3 .given (u .i))) _ (omega arith) (c .digit-text3 .ensures)) (omega (arith, unpacked-length (a .n) (a .s .now)))
+
+same-length-2 : tie.Need-same-length-2 Inv-loop μ-loop
+same-length-2 c = search needs
+
+returns-2 : tie.Need-returns-2 Inv-loop μ-loop
+returns-2 c =
+    let a = c .before .before .before .before .before .args in
+    written-all _ _ _ _ (c .before .before .loop .inv .0) (omega (arith, unpacked-length (a .n) (a .s .now)))
+
+pub unpack-text-spec : {M : Type 1} → statement M
+unpack-text-spec =
+    tie.close
+    (tie.spec
+    Inv-loop
+    μ-loop
+    loop-holds
+    shared-slice-read-x
+    digit-text-requires
+    mul-buf
+    slice-write-buf
+    digit-text-requires-2
+    mul-buf-2
+    add-buf
+    slice-write-buf-2
+    add-i
+    loop-less
+    loop-again
+    mul-if1
+    shared-slice-read-digit-text
+    digit-text-requires-3
+    mul-buf-3
+    slice-write-buf-3
+    same-length
+    returns
+    same-length-2
+    returns-2)

@@ -1,0 +1,7 @@
+pub mod Values
+pub mod Entries
+pub mod Walking
+pub mod Judging
+pub mod Putting
+pub mod Laying
+pub mod Whole

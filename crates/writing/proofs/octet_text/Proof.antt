@@ -1,0 +1,21 @@
+-- Any octet, or the text of a digit. Assumes nothing.
+use borrow.Author.Needs.{needs}
+use borrow.Author.Tests.{eq-eqb, ne-eqb}
+use mathlib.Core.Path.{sym, _∙_}
+use Rattle.writing.proofs.octet_text.Statement.{statement}
+use Rattle.writing.proofs.octet_text.Tie as tie
+
+code-of-requires : tie.Need-code-of-requires
+code-of-requires c κs = search needs
+
+digit-text-requires : tie.Need-digit-text-requires
+digit-text-requires c κs = search needs
+
+returns : tie.Need-returns
+returns c = rw (sym (c .before .code-of .ensures), eq-eqb _ 71 (c .if1 .taken))
+
+returns-2 : tie.Need-returns-2
+returns-2 c = rw (sym (c .before .before .code-of .ensures), ne-eqb _ 71 (c .before .if1 .left)) (c .digit-text .ensures)
+
+pub octet-text-spec : {M : Type 1} → statement M
+octet-text-spec = tie.close (tie.spec code-of-requires digit-text-requires returns returns-2)

@@ -1,0 +1,48 @@
+-- What the answers of this crate stand for, in the numbers and values of document 01. Assumes nothing.
+use Prim.Native.Nat.{ℕ}
+use mathlib.Core.Path.{_≡_}
+use mathlib.Core.Bool.{true}
+use mathlib.Core.List.{List}
+use lib.ListN.{length}
+use Rattle.meaning.specs.Framing.{Walk, attributes}
+use Rattle.meaning.specs.Refusals as book
+use Rattle.meaning.specs.Jobs.{isKind, areFlags}
+use Rattle.meaning.specs.Sheet.{areaOf, itemsIn, kindIn, flagsIn, areaIn, marked}
+use Rattle.meaning.specs.Answers as meant
+use Rattle.writing.specs.declared.Judged.{Judged}
+use Rattle.writing.specs.declared.Judged.the-variants.{Items, Broken}
+use Rattle.writing.specs.declared.Writing.{Writing}
+use Rattle.writing.specs.declared.Writing.the-variants.{Area, Refused}
+
+-- the refusal, or the octets of the area where there is none
+abbrev pub judgedFrom : book.Refusal → (octets : ℕ) → Judged
+judgedFrom book.none n = Items n
+judgedFrom (book.refusal k s) n = Broken (record { number = k; second = s })
+
+-- what the walk over a sheet's items gives
+unfoldable pub judgedOf : Walk → Judged
+judgedOf w = judgedFrom (book.fault w) (length (areaOf (attributes w)))
+
+-- a sheet of which nothing of 20 to 23 applies
+pub record Accepted (sheet : List ℕ) : Type 0 where
+  pub marked-is : marked sheet ≡ true
+  pub kind-ok : isKind (kindIn sheet) ≡ true
+  pub flags-ok : areFlags (flagsIn sheet) ≡ true
+  pub sound : book.fault (itemsIn sheet) ≡ book.none
+
+-- a sheet whose items were judged, with its kind and flags and the octets of its area
+pub record Ready (sheet : List ℕ) (kind flags needed : ℕ) : Type 0 where
+  pub accepted : Accepted sheet
+  pub kind-is : kind ≡ kindIn sheet
+  pub flags-is : flags ≡ flagsIn sheet
+  pub long : needed ≡ length (areaIn sheet)
+
+-- an area by its length, with kind and flags; a refusal by its number and second number
+abbrev pub writingOf : meant.Answer meant.Written → Writing
+writingOf (meant.given w) = Area (length (w .area)) (w .kind) (w .flags)
+writingOf (meant.refused n k) = Refused (record { number = n; second = k })
+
+-- what writing answers, and what the lent buffer holds then
+pub record Wrote (sheet buffer : List ℕ) (said : Writing) (held : List ℕ) : Type 0 where
+  pub says : said ≡ writingOf (meant.writeAnswer sheet (length buffer))
+  pub holds : held ≡ meant.after (meant.areaAnswer (meant.writeAnswer sheet (length buffer))) buffer
