@@ -35,7 +35,21 @@ pub fn any_area(random: &mut Random) -> Vec<u8> {
     }
 }
 
-fn attribute(random: &mut Random, number: Number) -> Vec<u8> {
+/// A readable area but for its length: most are small, some are about 4,076 octets or
+/// longer, few over 65,535.
+pub fn readable(random: &mut Random) -> Vec<u8> {
+    let length = match random.between(1, 10_000) {
+        1 | 2 => random.between(65_500, 70_000),
+        3..=150 => random.between(4_077, 6_000),
+        151..=300 => random.pick(&[4_074, 4_075, 4_076, 4_076, 4_077, 4_077, 4_078]),
+        301..=450 => random.between(200, 2_000),
+        _ => return small(random),
+    };
+    filled(random, length)
+}
+
+/// The number with a value made for it.
+pub fn attribute(random: &mut Random, number: Number) -> Vec<u8> {
     let value = value(random, number);
     match number {
         Number::Plain(number) => plain(number, &value),

@@ -2,8 +2,8 @@
 //!
 //!     generate JOBS SEED COUNT
 //!
-//! JOBS is one letter or more out of R (read) and C (check). The batch is the same for the
-//! same three words: first the known cases, then records made up from the seed.
+//! JOBS is one letter or more out of R (read), C (check) and W (write). The batch is the same
+//! for the same three words: first the known cases, then records made up from the seed.
 
 use std::io::{self, BufWriter, Write};
 use std::process::exit;
@@ -11,10 +11,16 @@ use std::process::exit;
 mod areas;
 mod attributes;
 mod cases;
-mod lengths;
+mod check_cases;
+mod items;
+mod messages;
 mod random;
+mod reader;
 mod records;
+mod sheet_cases;
+mod sheets;
 mod values;
+mod wrong_items;
 
 use random::Random;
 use records::{any_record, known_records, Job};
@@ -32,7 +38,7 @@ fn wanted(words: &[String]) -> Result<Wanted, String> {
     };
     let jobs = jobs.chars().map(Job::of).collect::<Result<Vec<_>, _>>()?;
     if jobs.is_empty() {
-        return Err("JOBS is one letter or more out of R and C".into());
+        return Err("JOBS is one letter or more out of R, C and W".into());
     }
     let seed = seed.parse().map_err(|_| format!("SEED is a number, not {seed:?}"))?;
     let count = count.parse().map_err(|_| format!("COUNT is a number, not {count:?}"))?;

@@ -69,6 +69,52 @@ pub fn any_number(random: &mut Random) -> Number {
     }
 }
 
+/// One of the numbers that document 01 names, each as often as another.
+pub fn named_number(random: &mut Random) -> Number {
+    let place = random.between(0, 38);
+    match PLAIN[..26].get(place) {
+        Some(&number) => Number::Plain(number),
+        None => Number::ThreeGpp(THREE_GPP[place - 26]),
+    }
+}
+
+/// A value that meets the number's shape, if it has one; allowed or not.
+pub fn meeting_value(random: &mut Random, number: Number) -> Vec<u8> {
+    match shape(number) {
+        Shape::FourOctets => {
+            let any = random.between(0, 20) as u8;
+            vec![0, 0, 0, random.pick(&[0, 1, 2, 3, 7, 8, any, any])]
+        }
+        Shape::Digits(low, high) => {
+            let count = random.between(low, high);
+            (0..count).map(|_| random.pick(b"0123456789")).collect()
+        }
+        Shape::Hexadecimal => hexadecimal(random, 16),
+        Shape::Qos => {
+            let (release, count) = random.pick(&[(b"98-", 6), (b"99-", 22)]);
+            [release.as_slice(), &hexadecimal(random, count)].concat()
+        }
+        Shape::OneHexadecimal => hexadecimal(random, 1),
+        Shape::OneOctet => vec![random.pick(&[255, 255, 0, 254])],
+        Shape::OneDecimal => vec![random.pick(b"0120123456789")],
+        Shape::Lengths(_) => {
+            let length = meeting_length(random, number);
+            random.octets(length)
+        }
+    }
+}
+
+/// A length that meets the number's length rule, if it has one.
+fn meeting_length(random: &mut Random, number: Number) -> usize {
+    let any = random.between(1, 20);
+    match number {
+        Number::Plain(2) => random.pick(&[16, 16, 16, 32, 128]),
+        Number::Plain(3) => 17,
+        Number::Plain(60) => random.pick(&[5, 16]),
+        _ => any,
+    }
+}
+
 /// A value for the number; now and then one made for some other number, or one of the
 /// greatest length or one octet less.
 pub fn value(random: &mut Random, number: Number) -> Vec<u8> {
