@@ -1,0 +1,10 @@
+pub mod Laying
+pub mod Rows
+pub mod Rules
+pub mod Values
+pub mod Walking
+pub mod Passes
+pub mod Ends
+pub mod Whole
+pub mod Exactly
+pub mod Bounds

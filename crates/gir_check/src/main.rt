@@ -1,0 +1,203 @@
+// gir_check: an attribute area with its kind and flags, from standard input or from the file that the argument names: a kind octet,
+// a flags octet, then the area. Prints each entry of the list of breaches as eight upper-case hexadecimal digits on a line, nothing for
+// an empty list, or one line: `refused N S` or `short`.
+use area::Refusal;
+use breach::Checking;
+use libc::STDERR_FILENO;
+use libc::STDIN_FILENO;
+use libc::STDOUT_FILENO;
+ghost use mathlib.Core.Path.{_≡_};
+ghost use Prim.Native.Nat.{min};
+
+// Says on standard error what could not be opened, read or written.
+fn fail(name: &[u8]) {
+    io::write_all(STDERR_FILENO, b"gir_check: ");
+    os::fail(name);
+}
+
+// Writes octets to standard output, and says so if that fails.
+fn print(s: &[u8]) {
+    if !io::write_all(STDOUT_FILENO, s) {
+        fail(b"standard output");
+    }
+}
+
+// What one more read of the input gives.
+enum Chunk {
+    Octets(u64),
+    End,
+    Failed,
+}
+
+// The octets of the whole input, or that a read failed.
+enum Counted {
+    All(u64),
+    Failed,
+}
+
+// Reads past what is kept, and tells how much came.
+fn more(fd: i32) -> Chunk {
+    let mut buf = io::buffer();
+    let got = libc::read(fd, &mut buf);
+    if got < 0 {
+        return Chunk::Failed;
+    }
+    let n = io::count(got, &buf);
+    if n == 0 {
+        return Chunk::End;
+    }
+    Chunk::Octets(n as u64)
+}
+
+// Counts the input to its end, with the octets had already; at most the largest 64-bit number.
+fn count(fd: i32, had: u64) -> Counted {
+    let mut total = had;
+    let mut turns = u64::MAX;
+    while turns > 0 {
+        match more(fd) {
+            Chunk::Octets(n) => {
+                if n > u64::MAX - total {
+                    return Counted::All(u64::MAX);
+                }
+                total += n;
+                turns -= 1;
+            }
+            Chunk::End => {
+                return Counted::All(total);
+            }
+            Chunk::Failed => {
+                return Counted::Failed;
+            }
+        }
+    }
+    Counted::All(total)
+}
+
+// The octets of the area, of all that the input has.
+fn area_length(all: u64) -> u64 {
+    if all < 2 { 0 } else { all - 2 }
+}
+
+// Prints the line of a refusal; 3 tells the length of the whole area, of which only a part was kept.
+fn print_refusal(refusal: Refusal, all: u64) {
+    let number = refusal.number;
+    let second = refusal.second;
+    io::write_all(STDOUT_FILENO, b"refused ");
+    io::print_decimal(STDOUT_FILENO, number as u64);
+    io::write_all(STDOUT_FILENO, b" ");
+    if number == 3 {
+        io::print_decimal(STDOUT_FILENO, area_length(all));
+    } else {
+        io::print_decimal(STDOUT_FILENO, second as u64);
+    }
+    print(b"\n");
+}
+
+fn wide(x: u8) -> u32 {
+    x as u32
+}
+
+// The upper-case hexadecimal digit of a number's low half.
+fn digit(n: u8) -> u8 {
+    let half = n % 16;
+    if half < 10 { half + 48 } else { half + 55 }
+}
+
+// The line of an entry: eight digits and a line feed.
+fn line_of(entry: u32) -> [u8; 9] {
+    let x = octets::u32_octets(entry);
+    [
+        digit(x[0] / 16),
+        digit(x[0]),
+        digit(x[1] / 16),
+        digit(x[1]),
+        digit(x[2] / 16),
+        digit(x[2]),
+        digit(x[3] / 16),
+        digit(x[3]),
+        b'\n',
+    ]
+}
+
+fn least(a: usize, b: usize) -> usize
+    ensures { λ r. ⌜ r ≡ min a b ⌝ }
+{
+    if a < b { a } else { b }
+}
+
+// Lays the lines of the first `count` entries over the start of `text`, as far as it has room, and tells their octets.
+fn lines(list: &[u32; 6126], count: usize, text: &mut [u8]) -> usize {
+    let end = least(count, 6126);
+    let mut i: usize = 0;
+    while i < end {
+        let line = line_of(list[i]);
+        octets::copy_at(text, 9 * i, &line);
+        i += 1;
+    }
+    9 * i
+}
+
+// Prints the lines of a list in one write; an empty list prints nothing.
+fn print_list(list: &[u32; 6126], count: usize) {
+    let mut text = [0u8; 55134];
+    let n = lines(list, count, &mut text);
+    if 0 < n {
+        print(octets::part(&text, 0, n));
+    }
+}
+
+// Prints the answer for a payload: the kind octet, the flags octet and the area, or as much of it as decides the answer.
+fn print_answer(payload: &[u8], all: u64) {
+    if payload.len() < 2 {
+        print(b"short\n");
+        return;
+    }
+    let kind = wide(payload[0]);
+    let flags = wide(payload[1]);
+    // Three entries for each of 2,038 attributes, and twelve at the end: no list is longer.
+    let mut list = [0u32; 6126];
+    match breach::check(&payload[2..], kind, flags, &mut list) {
+        Checking::List(n) => {
+            print_list(&list, n);
+        }
+        Checking::Refused(refusal) => {
+            print_refusal(refusal, all);
+        }
+    }
+}
+
+// Reads the input and prints the answer; the 4,077th octet of an area is enough to know that it is too long.
+fn answer(fd: i32, name: &[u8]) {
+    let mut buf = [0u8; 4079];
+    let kept = io::read_full(fd, &mut buf);
+    let Counted::All(all) = count(fd, kept as u64) else {
+        fail(name);
+        return;
+    };
+    print_answer(octets::part(&buf, 0, kept), all);
+}
+
+fn main() {
+    let args = os::arg_count();
+    if args < 2 {
+        answer(STDIN_FILENO, b"standard input");
+        return;
+    }
+    if args > 2 {
+        io::write_all(STDERR_FILENO, b"gir_check: one file at most\n");
+        return;
+    }
+    let mut name = io::buffer();
+    let n = os::arg(1, &mut name);
+    if os::errno() != 0 {
+        fail(octets::part(&name, 0, 4096));
+        return;
+    }
+    let fd = os::open_read(octets::part(&name, 0, n));
+    if fd < 0 {
+        fail(octets::part(&name, 0, n));
+        return;
+    }
+    answer(fd, octets::part(&name, 0, n));
+    libc::close(fd);
+}
