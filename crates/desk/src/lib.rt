@@ -23,11 +23,7 @@ pub enum Checking {
 
 // What writing answers: the octets of the area that stands at the buffer's start, with the kind and flags of the sheet, or a refusal.
 pub enum Writing {
-    Area {
-        length: usize,
-        kind: u8,
-        flags: u8,
-    },
+    Area { length: usize, kind: u8, flags: u8 },
     Refused(Refusal),
 }
 
