@@ -1,3 +1,4 @@
+pub mod Table
 pub mod Laying
 pub mod Rows
 pub mod Rules

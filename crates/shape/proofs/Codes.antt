@@ -41,17 +41,6 @@ pub code-3gpp : (n : ℕ) → 256 ≤ n → codeOf (shapeOf n) ≡ codeOf (gppSh
 unfolding shapeOf
 code-3gpp n h = rw (le-ltb n 256 h)
 
-no-3gpp : (s : ℕ) → 19 ≤ s → gppShape s ≡ free
-unfolding gppShape
-no-3gpp s h =
-    let no : (k : ℕ) → k < 19 → eqb s k ≡ false = λ k g. ne-eqb s k (λ e. omega arith) in
-    simp (no 1 (omega arith), no 2 (omega arith), no 3 (omega arith), no 4 (omega arith), no 5 (omega arith), no 6 (omega arith), no 7 (omega arith), no 8 (omega arith), no 9 (omega arith), no 10 (omega arith), no 11 (omega arith), no 12 (omega arith), no 18 (omega arith))
-
--- A number of 512 or more has no shape.
-pub code-past : (n : ℕ) → 512 ≤ n → codeOf (shapeOf n) ≡ 0
-unfolding codeOf
-code-past n h = code-3gpp n (omega arith) ∙ ap codeOf (no-3gpp (n - 256) (omega arith))
-
 -- ---- The form
 
 -- The tens of a code are the form of the shape.

@@ -1,4 +1,4 @@
-pub mod Table
+pub mod Coded
 pub mod Codes
 pub mod Meeting
 pub mod Formed

@@ -2,7 +2,7 @@
 // the sheet that the attribute gives. Each public function takes any arguments.
 ghost use mathlib.Core.Path.{_≡_};
 ghost use mathlib.Core.Bool.{cond, _&&_};
-ghost use Prim.Native.Nat.{_<_, _%_};
+ghost use Prim.Native.Nat.{_%_, _<_};
 ghost use lib.Dec.{eqb};
 ghost use lib.ListN.{length};
 ghost use Rattle.meaning.specs.Octets.{all, isHex, digitValue};
@@ -10,10 +10,8 @@ ghost use Rattle.meaning.specs.Shapes.{digits, qos, plainShape, gppShape, shape
 ghost use Rattle.meaning.specs.Shapes as meant;
 ghost use Rattle.meaning.specs.Framing.{isPlain};
 ghost use Rattle.meaning.specs.Sheet.{form, storedLength};
-ghost use Rattle.shape.specs.Codes.{codeOf, shapeBy};
+ghost use Rattle.shape.specs.Codes.{codeOf, shapeBy, isNumber, isAddress, isText, isGppNumber, isGppAddress, isNetworkCode};
 ghost use Rattle.shape.specs.Items.{undigited, itemAt};
-
-mod tables;
 
 // "An item's value is either a number, an address, digits or plain octets": plain octets as a part of the area; the digits stand
 // beside it.
@@ -34,34 +32,123 @@ pub struct Item {
     pub digits: octets::Digits,
 }
 
-// The code of a plain number's shape.
-fn plain_code(number: usize) -> u8
-    requires { ⌜ number < 256 ⌝ }
-    ensures { λ r. ⌜ r ≡ codeOf (plainShape number) ⌝ }
+// "Form 2, four octets: 6, 7, 40 to 43, 45 to 49, 61".
+fn is_plain_number(t: u16) -> bool
+    ensures { λ r. ⌜ r ≡ isNumber t ⌝ }
 {
-    tables::PLAIN[number]
+    ((t == 6) | (t == 7)) | (((40 <= t) & (t <= 43)) | (((45 <= t) & (t <= 49)) | (t == 61)))
+}
+
+// "Form 3, four octets: 4, 8, 9".
+fn is_plain_address(t: u16) -> bool
+    ensures { λ r. ⌜ r ≡ isAddress t ⌝ }
+{
+    (t == 4) | ((t == 8) | (t == 9))
+}
+
+// "1, 18, 24, 25, 30, 32 at least 1 octet".
+fn is_plain_text(t: u16) -> bool
+    ensures { λ r. ⌜ r ≡ isText t ⌝ }
+{
+    (t == 1) | ((t == 18) | ((t == 24) | ((t == 25) | ((t == 30) | (t == 32)))))
+}
+
+// The code of a plain number's shape.
+fn plain_code(t: u16) -> u8
+    ensures { λ r. ⌜ r ≡ codeOf (plainShape t) ⌝ }
+{
+    if is_plain_number(t) {
+        return 20;
+    }
+    if is_plain_address(t) {
+        return 30;
+    }
+    if t == 31 {
+        return 40;
+    }
+    if t == 44 {
+        return 50;
+    }
+    if is_plain_text(t) {
+        return 1;
+    }
+    if t == 2 {
+        return 4;
+    }
+    if t == 3 {
+        return 3;
+    }
+    if t == 60 {
+        return 2;
+    }
+    0
+}
+
+// 3GPP, "2 and 3: form 2".
+fn is_gpp_number(s: u16) -> bool
+    ensures { λ r. ⌜ r ≡ isGppNumber s ⌝ }
+{
+    (s == 2) | (s == 3)
+}
+
+// 3GPP, "4, 6, 7: form 3".
+fn is_gpp_address(s: u16) -> bool
+    ensures { λ r. ⌜ r ≡ isGppAddress s ⌝ }
+{
+    (s == 4) | ((s == 6) | (s == 7))
+}
+
+// 3GPP, "8, 9, 18: form 4, 5 or 6 digits".
+fn is_network_code(s: u16) -> bool
+    ensures { λ r. ⌜ r ≡ isNetworkCode s ⌝ }
+{
+    (s == 8) | ((s == 9) | (s == 18))
 }
 
 // The code of a 3GPP number's shape.
-fn gpp_code(number: usize) -> u8
-    requires { ⌜ number < 256 ⌝ }
-    ensures { λ r. ⌜ r ≡ codeOf (gppShape number) ⌝ }
+fn gpp_code(s: u16) -> u8
+    ensures { λ r. ⌜ r ≡ codeOf (gppShape s) ⌝ }
 {
-    tables::GPP[number]
+    if s == 1 {
+        return 40;
+    }
+    if is_gpp_number(s) {
+        return 20;
+    }
+    if is_gpp_address(s) {
+        return 30;
+    }
+    if s == 5 {
+        return 60;
+    }
+    if is_network_code(s) {
+        return 41;
+    }
+    if s == 10 {
+        return 70;
+    }
+    if s == 11 {
+        return 71;
+    }
+    if s == 12 {
+        return 72;
+    }
+    0
 }
 
-// The code of the shape of a carried number, whatever the number.
+// The code of the shape of a carried number, whatever the number. The tens of a code are the form of the shape, 0 where it has none of
+// its own, and the ones tell the shapes of one form apart:
+//
+//     0 no shape   1 at least 1 octet   2 at least 5   3 exactly 17   4 blocks of 16
+//     20 number   30 address   40 digits, 1 to 15   41 digits, 5 or 6   50 hexadecimal   60 QoS profile
+//     70 one hexadecimal digit   71 any octet   72 one decimal digit
 pub fn code_of(number: u16) -> u8
     ensures { λ r. ⌜ r ≡ codeOf (shapeOf number) ⌝ }
 {
-    let n = number as usize;
-    if n < 256 {
-        return plain_code(n);
+    if number < 256 {
+        return plain_code(number);
     }
-    if n < 512 {
-        return gpp_code(n - 256);
-    }
-    0
+    gpp_code(number - 256)
 }
 
 // Whether a value is `least` to `most` decimal digits.
@@ -125,7 +212,7 @@ fn meets_blocks(value: &[u8]) -> bool
     (16 <= len) & (len <= 128) & (len % 16 == 0)
 }
 
-// Whether a value meets the shape of a code; tables.rt says which code is which.
+// Whether a value meets the shape of a code.
 fn meets_code(code: u8, value: &[u8]) -> bool
     ensures { λ r. ⌜ r ≡ meant.meets (shapeBy code) (now (value .entry)) ⌝ }
 {

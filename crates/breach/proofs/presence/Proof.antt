@@ -1,7 +1,7 @@
 -- The computed test: each of the 1,536 entries is the code of its kind and number. Assumes nothing.
 use mathlib.Core.Path.{refl, _∙_}
 use Rattle.meaning.specs.Presence.{mandatory, code}
-use Rattle.shape.proofs.Table.{built-at}
+use Rattle.breach.proofs.Table.{built-at}
 use Rattle.breach.proofs.Rows.{codeAt, code-at, in-table}
 use Rattle.breach.proofs.presence.Statement.{statement}
 use Rattle.breach.proofs.presence.Tie as tie

@@ -1,8 +1,8 @@
--- A plain number, a 3GPP number, and a number past both. Assumes nothing.
+-- A plain number, or a 3GPP number. Assumes nothing.
 use borrow.Author.Needs.{needs}
 use mathlib.Core.Path.{sym, _∙_}
 use native.Mathlib.Omega.{arith}
-use Rattle.shape.proofs.Codes.{code-plain, code-3gpp, code-past}
+use Rattle.shape.proofs.Codes.{code-plain, code-3gpp}
 use Rattle.shape.proofs.code_of.Statement.{statement}
 use Rattle.shape.proofs.code_of.Tie as tie
 
@@ -18,9 +18,6 @@ gpp-code-requires c κs = search needs
 returns-2 : tie.Need-returns-2
 returns-2 c = c .gpp-code .ensures ∙ sym (code-3gpp _ (omega arith))
 
-returns-3 : tie.Need-returns-3
-returns-3 c = sym (code-past _ (omega arith))
-
 pub code-of-spec : {M : Type 1} → statement M
 code-of-spec =
-    tie.close (tie.spec plain-code-requires returns gpp-code-requires returns-2 returns-3)
+    tie.close (tie.spec plain-code-requires returns gpp-code-requires returns-2)
