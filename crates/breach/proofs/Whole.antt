@@ -16,6 +16,7 @@ use Rattle.meaning.specs.Answers.{after, listOf, checkAnswer}
 use Rattle.meaning.proofs.Tests.{parts, passes}
 use Rattle.meaning.proofs.Sheets.{clear}
 use Rattle.octets.specs.Parts.{partOf}
+use Rattle.octets.proofs.Overs.{over-none}
 use Rattle.area.specs.declared.Refusal.{Refusal}
 use Rattle.area.specs.declared.Framing.{Framing}
 use Rattle.area.specs.declared.Framing.the-variants.{Whole, Broken}
@@ -83,6 +84,18 @@ module _ (kind flags : ℕ) (area : List ℕ) (a : Admitted kind flags area) whe
     too-long h =
         let t = lt-ltb (length d) (length (listOf kind flags area)) (omega (arith, counted, ap length same)) in
         record { says = rw (counted, a .accepted, t); holds = rw (a .accepted, t) same }
+
+    -- the empty list
+    pub list-empty : needed ≡ 0 → Checked kind flags area d (is.List needed) (p ++ d)
+    unfolding checkAnswer areaOrder after
+    list-empty e =
+        let none-broken : listOf kind flags area ≡ [] = empty (listOf kind flags area) (sym counted ∙ e) in
+        let t = le-ltb (length d) (length (listOf kind flags area)) (omega (arith, counted)) in
+        record { says = rw (counted, a .accepted, t); holds = rw (a .accepted, t, none-broken) (same ∙ sym (over-none d)) }
+      where
+        empty : (l : List ℕ) → length l ≡ 0 → l ≡ []
+        empty [] h = refl
+        empty (x ∷ l) h = absurd (omega arith)
 
     -- the list
     pub list-laid : (held : List ℕ) (said : ℕ) → needed ≤ length (p ++ d) → Laid (listOf kind flags area) (p ++ d) 0 said held → Checked kind flags area d (is.List needed) held

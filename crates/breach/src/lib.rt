@@ -396,6 +396,10 @@ fn lay(area: &[u8], kind: u32, flags: u32, list: &mut [u32]) -> Checking
             second: needed,
         });
     }
+    // Most areas break nothing: then there is nothing to lay.
+    if needed == 0 {
+        return Checking::List(needed);
+    }
     pass(area, codes, &seen, kind, flags, list);
     Checking::List(needed)
 }

@@ -130,7 +130,7 @@ fn holds_one(stored: &[u8], most: u8) -> bool
     stored[0] <= most
 }
 
-// Whether octets are what the shape of a code stores of some value; shape/src/tables.rt says which code is which.
+// Whether octets are what the shape of a code stores of some value; `shape::code_of` says which code is which.
 fn holds(code: u8, count: u8, stored: &[u8]) -> bool
     requires { ⌜ length (now stored) ≡ meant.storedLength (code / 10) count ⌝ }
     ensures { λ r. ⌜ r ≡ held (shapeBy code) count (now (stored .entry)) ⌝ }

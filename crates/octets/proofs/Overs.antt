@@ -162,3 +162,7 @@ module _ (at : ℕ) (s d : List ℕ) (n : ℕ) (fit : Bool) (size : n ≡ length
         says = sym e ∙ fit-is;
         holds = ap (λ (r : List ℕ). take at d ++ r) (ap (λ (r : List ℕ). p ++ r) none ∙ append-nil p ∙ q ∙ ap (over s) all) ∙ sym (laid-fits at s d (omega arith));
       }
+
+-- Any two answers that a writer's promise permits are the same, the buffer included.
+pub one-laid : (at : ℕ) (s d : List ℕ) (said said′ : Bool) (held held′ : List ℕ) → Laid at s d said held → Laid at s d said′ held′ → (said ≡ said′) × (held ≡ held′)
+one-laid at s d said said′ held held′ p q = (p .says ∙ sym (q .says), p .holds ∙ sym (q .holds))

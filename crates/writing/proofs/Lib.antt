@@ -5,3 +5,4 @@ pub mod Judging
 pub mod Putting
 pub mod Laying
 pub mod Whole
+pub mod Exactly

@@ -1,7 +1,7 @@
 -- `breach::lay` meets its contract. Assumes nothing.
 use borrow.Author.Needs.{needs}
 use native.Mathlib.Omega.{arith}
-use Rattle.breach.proofs.Whole.{admitted-known, admitted-ready, too-long, list-laid}
+use Rattle.breach.proofs.Whole.{admitted-known, admitted-ready, too-long, list-empty, list-laid}
 use Rattle.breach.proofs.lay.Statement.{statement}
 use Rattle.breach.proofs.lay.Tie as tie
 
@@ -38,14 +38,20 @@ same-length c = search needs
 returns : tie.Need-returns
 returns c = too-long _ _ _ (c .before .before .before .before .before .before .before .before .before .before .before .before .pre) _ _ _ (c .before .before .before .pass .ensures) (c .if1 .taken)
 
-pass-requires-2 : tie.Need-pass-requires-2
-pass-requires-2 c κs = (admitted-ready _ _ _ (c .before .before .before .before .before .before .before .before .before .before .before .before .before .before .pre) _ _ (c .before .before .before .before .before .before .before .before .before .before .before .presence .ensures) (c .before .before .before .before .before .before .before .before .before .part .ensures), c .before .before .before .before .before .before .before .before .seen-in .ensures)
-
 same-length-2 : tie.Need-same-length-2
 same-length-2 c = search needs
 
 returns-2 : tie.Need-returns-2
-returns-2 c = list-laid _ _ _ (c .before .before .before .before .before .before .before .before .before .before .before .before .before .before .before .before .before .pre) _ _ _ (c .before .before .before .before .before .before .before .before .pass .ensures) _ _ (c .before .before .before .before .before .if1 .left) (c .before .before .pass2 .ensures)
+returns-2 c = list-empty _ _ _ (c .before .before .before .before .before .before .before .before .before .before .before .before .before .pre) _ _ _ (c .before .before .before .before .pass .ensures) (c .if2 .taken)
+
+pass-requires-2 : tie.Need-pass-requires-2
+pass-requires-2 c κs = (admitted-ready _ _ _ (c .before .before .before .before .before .before .before .before .before .before .before .before .before .before .before .pre) _ _ (c .before .before .before .before .before .before .before .before .before .before .before .before .presence .ensures) (c .before .before .before .before .before .before .before .before .before .before .part .ensures), c .before .before .before .before .before .before .before .before .before .seen-in .ensures)
+
+same-length-3 : tie.Need-same-length-3
+same-length-3 c = search needs
+
+returns-3 : tie.Need-returns-3
+returns-3 c = list-laid _ _ _ (c .before .before .before .before .before .before .before .before .before .before .before .before .before .before .before .before .before .before .pre) _ _ _ (c .before .before .before .before .before .before .before .before .before .pass .ensures) _ _ (c .before .before .before .before .before .before .if1 .left) (c .before .before .pass2 .ensures)
 
 pub lay-spec : {M : Type 1} → statement M
 lay-spec =
@@ -62,6 +68,8 @@ lay-spec =
     pass-requires
     same-length
     returns
-    pass-requires-2
     same-length-2
-    returns-2)
+    returns-2
+    pass-requires-2
+    same-length-3
+    returns-3)
