@@ -1,7 +1,7 @@
 # Building and running, shared by the scripts here. Sourced with $here set to this folder.
 
-# The jobs that the desk's batch program answers by now: R read, C check, W write.
-jobs=RW
+# The jobs that are recorded and compared: R read, C check, W write.
+jobs=RCW
 
 top=$(cd "$here/.." && pwd)
 target="$top/target/tests"

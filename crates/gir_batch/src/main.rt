@@ -1,14 +1,17 @@
 // gir_batch: any number of records in one run, from standard input to standard output, one line a record. A record is a job octet,
 // the room and the length n of the payload, 32 bits each with the high octet first, and n octets of payload. Job `R` reads: its
-// payload is a kind octet, a flags octet and an area, its line the sheet in hexadecimal, `refused N S` or `short`. Job `W` writes:
-// its payload is a sheet, its line kind and flags in decimal and the area in hexadecimal, or `refused N S`; a sheet of more than
-// 1,048,576 octets is passed over, and its line says that it was not judged. Another job, or a record that passes the input's end,
-// gives `broken K`, K being the record's number from 0, and ends the run.
-use area::Refusal;
+// payload is a kind octet, a flags octet and an area, its line the sheet in hexadecimal, `refused N S` or `short`. Job `C` checks:
+// its payload is the same, its room is in entries, and its line is the list of breaches, each entry as eight hexadecimal digits with
+// one space between, `refused N S` or `short`. Job `W` writes: its payload is a sheet, its line kind and flags in decimal and the
+// area in hexadecimal, or `refused N S`; a sheet of more than 1,048,576 octets is passed over, and its line says that it was not
+// judged. Another job, or a record that passes the input's end, gives `broken K`, K being the record's number from 0, and ends the
+// run.
+use desk::Checking;
+use desk::Reading;
+use desk::Refusal;
+use desk::Writing;
 use libc::STDIN_FILENO;
 use libc::STDOUT_FILENO;
-use sheet::Reading;
-use writing::Writing;
 ghost use mathlib.Core.Path.{_≡_};
 ghost use Prim.Native.Nat.{min};
 ghost use lib.ListN.{length};
@@ -87,10 +90,10 @@ fn wide(x: u8) -> u32 {
 // Reads with so much room of the buffer.
 fn read_within(area: &[u8], kind: u32, flags: u32, sheet: &mut [u8], room: usize) -> Reading {
     let open = least(room, sheet.len());
-    sheet::read(area, kind, flags, &mut sheet[..open])
+    desk::read(area, kind, flags, &mut sheet[..open])
 }
 
-// The second number of a refusal to read a payload of n octets; 3 tells the length of the whole area, of which only a part may be
+// The second number of a refusal to read or check a payload of n octets; 3 tells the length of the whole area, of which only a part may be
 // kept.
 fn second_of(refusal: Refusal, n: usize) -> usize {
     if refusal.number != 3 {
@@ -117,10 +120,58 @@ fn put_reading(out: &mut [u8], used: usize, payload: &[u8], n: usize, room: usiz
     }
 }
 
+// An entry as eight hexadecimal digits, with a space before it where it is not the first.
+fn put_entry(out: &mut [u8], used: usize, entry: u32, first: bool) -> usize {
+    let mut text = [0u8; 8];
+    hex(&octets::u32_octets(entry), &mut text);
+    if first {
+        return put(out, used, &text);
+    }
+    let then = put(out, used, b" ");
+    put(out, then, &text)
+}
+
+// The line of a list's first `count` entries.
+fn put_list(out: &mut [u8], used: usize, list: &[u32; 6126], count: usize) -> usize {
+    let end = least(count, 6126);
+    let mut then = used;
+    let mut i: usize = 0;
+    while i < end {
+        then = put_entry(out, then, list[i], i == 0);
+        i += 1;
+    }
+    put(out, then, b"\n")
+}
+
+// Checks with so much room of the list.
+fn check_within(area: &[u8], kind: u32, flags: u32, list: &mut [u32], room: usize) -> Checking {
+    let open = least(room, list.len());
+    desk::check(area, kind, flags, &mut list[..open])
+}
+
+// Job `C`: the line of a check, with so much room for the list, of a payload that was n octets long.
+fn put_checking(out: &mut [u8], used: usize, payload: &[u8], n: usize, room: usize) -> usize {
+    if payload.len() < 2 {
+        return put(out, used, b"short\n");
+    }
+    let kind = wide(payload[0]);
+    let flags = wide(payload[1]);
+    // No list is longer: three entries for each of 2,038 attributes, and twelve at the end.
+    let mut list = [0u32; 6126];
+    match check_within(&payload[2..], kind, flags, &mut list, room) {
+        Checking::List(m) => {
+            return put_list(out, used, &list, m);
+        }
+        Checking::Refused(refusal) => {
+            return put_refusal(out, used, refusal.number, second_of(refusal, n));
+        }
+    }
+}
+
 // Writes with so much room of the buffer.
 fn write_within(sheet: &[u8], area: &mut [u8], room: usize) -> Writing {
     let open = least(room, area.len());
-    writing::write(sheet, &mut area[..open])
+    desk::write(sheet, &mut area[..open])
 }
 
 // The line of an area, with the kind and flags that stand in its sheet.
@@ -173,6 +224,14 @@ fn skip(count: usize) -> bool {
     true
 }
 
+// Says on standard error if the input does not end here, but cannot be read.
+fn at_end() {
+    let mut one = [0u8; 1];
+    if libc::read(STDIN_FILENO, &mut one) < 0 {
+        os::fail(b"gir_batch: standard input");
+    }
+}
+
 fn broken(out: &mut [u8], used: usize, number: u64) -> Step {
     let a = put(out, used, b"broken ");
     let b = put_decimal(out, a, number);
@@ -181,7 +240,7 @@ fn broken(out: &mut [u8], used: usize, number: u64) -> Step {
 
 // Whether there is such a job.
 fn is_job(job: u8) -> bool {
-    (job == b'R') | (job == b'W')
+    (job == b'R') | (job == b'C') | (job == b'W')
 }
 
 // Takes a payload of n octets, of which the buffer keeps as many as it has room for; whether all of them were there.
@@ -198,9 +257,11 @@ fn record(out: &mut [u8], used: usize, payload: &mut [u8], number: u64) -> Step 
     let mut head = [0u8; 9];
     let got = io::read_full(STDIN_FILENO, &mut head);
     if got == 0 {
+        at_end();
         return Step::Ended(used);
     }
     if got < 9 {
+        at_end();
         return broken(out, used, number);
     }
     let job = head[0];
@@ -210,11 +271,15 @@ fn record(out: &mut [u8], used: usize, payload: &mut [u8], number: u64) -> Step 
     let room = octets::u32_at(&head, 1) as usize;
     let n = octets::u32_at(&head, 5) as usize;
     if !take(payload, n) {
+        at_end();
         return broken(out, used, number);
     }
     let kept = octets::part(payload, 0, n);
     if job == b'R' {
         return Step::Went(put_reading(out, used, kept, n, room));
+    }
+    if job == b'C' {
+        return Step::Went(put_checking(out, used, kept, n, room));
     }
     Step::Went(put_writing(out, used, kept, n, room))
 }

@@ -1,8 +1,8 @@
 // gir_check: an attribute area with its kind and flags, from standard input or from the file that the argument names: a kind octet,
 // a flags octet, then the area. Prints each entry of the list of breaches as eight upper-case hexadecimal digits on a line, nothing for
 // an empty list, or one line: `refused N S` or `short`.
-use area::Refusal;
-use breach::Checking;
+use desk::Checking;
+use desk::Refusal;
 use libc::STDERR_FILENO;
 use libc::STDIN_FILENO;
 use libc::STDOUT_FILENO;
@@ -73,48 +73,56 @@ fn count(fd: i32, had: u64) -> Counted {
     Counted::All(total)
 }
 
-// The octets of the area, of all that the input has.
-fn area_length(all: u64) -> u64 {
+// Lays octets over the text from the place `used` on, where they fit, and tells where they end.
+fn put(text: &mut [u8], used: usize, s: &[u8]) -> usize {
+    if octets::copy_at(text, used, s) {
+        return used + s.len();
+    }
+    used
+}
+
+fn put_decimal(text: &mut [u8], used: usize, n: u64) -> usize {
+    let mut digits = [0u8; 20];
+    let k = io::decimal(n, &mut digits);
+    put(text, used, &digits[..k])
+}
+
+// The second number of a refusal; 3 tells the length of the whole area, of which only a part was kept.
+fn second_of(refusal: Refusal, all: u64) -> u64 {
+    if refusal.number != 3 {
+        return refusal.second as u64;
+    }
     if all < 2 { 0 } else { all - 2 }
 }
 
-// Prints the line of a refusal; 3 tells the length of the whole area, of which only a part was kept.
+// Prints the line of a refusal, in one write.
 fn print_refusal(refusal: Refusal, all: u64) {
-    let number = refusal.number;
-    let second = refusal.second;
-    io::write_all(STDOUT_FILENO, b"refused ");
-    io::print_decimal(STDOUT_FILENO, number as u64);
-    io::write_all(STDOUT_FILENO, b" ");
-    if number == 3 {
-        io::print_decimal(STDOUT_FILENO, area_length(all));
-    } else {
-        io::print_decimal(STDOUT_FILENO, second as u64);
-    }
-    print(b"\n");
+    // No number has more than twenty digits.
+    let mut text = [0u8; 50];
+    let a = put(&mut text, 0, b"refused ");
+    let b = put_decimal(&mut text, a, refusal.number as u64);
+    let c = put(&mut text, b, b" ");
+    let d = put_decimal(&mut text, c, second_of(refusal, all));
+    let e = put(&mut text, d, b"\n");
+    print(octets::part(&text, 0, e));
 }
 
 fn wide(x: u8) -> u32 {
     x as u32
 }
 
-// The upper-case hexadecimal digit of a number's low half.
-fn digit(n: u8) -> u8 {
-    let half = n % 16;
-    if half < 10 { half + 48 } else { half + 55 }
-}
-
 // The line of an entry: eight digits and a line feed.
 fn line_of(entry: u32) -> [u8; 9] {
     let x = octets::u32_octets(entry);
     [
-        digit(x[0] / 16),
-        digit(x[0]),
-        digit(x[1] / 16),
-        digit(x[1]),
-        digit(x[2] / 16),
-        digit(x[2]),
-        digit(x[3] / 16),
-        digit(x[3]),
+        octets::digit_text(x[0] / 16),
+        octets::digit_text(x[0]),
+        octets::digit_text(x[1] / 16),
+        octets::digit_text(x[1]),
+        octets::digit_text(x[2] / 16),
+        octets::digit_text(x[2]),
+        octets::digit_text(x[3] / 16),
+        octets::digit_text(x[3]),
         b'\n',
     ]
 }
@@ -156,7 +164,7 @@ fn print_answer(payload: &[u8], all: u64) {
     let flags = wide(payload[1]);
     // Three entries for each of 2,038 attributes, and twelve at the end: no list is longer.
     let mut list = [0u32; 6126];
-    match breach::check(&payload[2..], kind, flags, &mut list) {
+    match desk::check(&payload[2..], kind, flags, &mut list) {
         Checking::List(n) => {
             print_list(&list, n);
         }

@@ -1,10 +1,10 @@
 // gir_read: an attribute area with its kind and flags, from standard input or from the file that the argument names: a kind octet,
 // a flags octet, then the area. Prints the sheet's raw octets, or one line: `refused N S` or `short`.
-use area::Refusal;
+use desk::Reading;
+use desk::Refusal;
 use libc::STDERR_FILENO;
 use libc::STDIN_FILENO;
 use libc::STDOUT_FILENO;
-use sheet::Reading;
 
 // Says on standard error what could not be opened, read or written.
 fn fail(name: &[u8]) {
@@ -70,24 +70,38 @@ fn count(fd: i32, had: u64) -> Counted {
     Counted::All(total)
 }
 
-// The octets of the area, of all that the input has.
-fn area_length(all: u64) -> u64 {
+// Lays octets over the text from the place `used` on, where they fit, and tells where they end.
+fn put(text: &mut [u8], used: usize, s: &[u8]) -> usize {
+    if octets::copy_at(text, used, s) {
+        return used + s.len();
+    }
+    used
+}
+
+fn put_decimal(text: &mut [u8], used: usize, n: u64) -> usize {
+    let mut digits = [0u8; 20];
+    let k = io::decimal(n, &mut digits);
+    put(text, used, &digits[..k])
+}
+
+// The second number of a refusal; 3 tells the length of the whole area, of which only a part was kept.
+fn second_of(refusal: Refusal, all: u64) -> u64 {
+    if refusal.number != 3 {
+        return refusal.second as u64;
+    }
     if all < 2 { 0 } else { all - 2 }
 }
 
-// Prints the line of a refusal; 3 tells the length of the whole area, of which only a part was kept.
+// Prints the line of a refusal, in one write.
 fn print_refusal(refusal: Refusal, all: u64) {
-    let number = refusal.number;
-    let second = refusal.second;
-    io::write_all(STDOUT_FILENO, b"refused ");
-    io::print_decimal(STDOUT_FILENO, number as u64);
-    io::write_all(STDOUT_FILENO, b" ");
-    if number == 3 {
-        io::print_decimal(STDOUT_FILENO, area_length(all));
-    } else {
-        io::print_decimal(STDOUT_FILENO, second as u64);
-    }
-    print(b"\n");
+    // No number has more than twenty digits.
+    let mut text = [0u8; 50];
+    let a = put(&mut text, 0, b"refused ");
+    let b = put_decimal(&mut text, a, refusal.number as u64);
+    let c = put(&mut text, b, b" ");
+    let d = put_decimal(&mut text, c, second_of(refusal, all));
+    let e = put(&mut text, d, b"\n");
+    print(octets::part(&text, 0, e));
 }
 
 fn wide(x: u8) -> u32 {
@@ -103,7 +117,7 @@ fn print_answer(payload: &[u8], all: u64) {
     let kind = wide(payload[0]);
     let flags = wide(payload[1]);
     let mut sheet = [0u8; 8161];
-    match sheet::read(&payload[2..], kind, flags, &mut sheet) {
+    match desk::read(&payload[2..], kind, flags, &mut sheet) {
         Reading::Sheet(n) => {
             print(octets::part(&sheet, 0, n));
         }

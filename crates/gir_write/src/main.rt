@@ -1,11 +1,11 @@
 // gir_write: a sheet, from standard input or from the file that the argument names. Prints the kind octet, the flags octet and the
 // area, raw, or one line: `refused N S`. A sheet of more than 1,048,576 octets is not judged: standard output stays empty then, and
 // a line on standard error says so.
-use area::Refusal;
+use desk::Refusal;
+use desk::Writing;
 use libc::STDERR_FILENO;
 use libc::STDIN_FILENO;
 use libc::STDOUT_FILENO;
-use writing::Writing;
 ghost use mathlib.Core.Path.{_≡_};
 ghost use Prim.Native.Nat.{min};
 ghost use lib.ListN.{length};
@@ -29,15 +29,30 @@ fn least(a: usize, b: usize) -> usize
     if a < b { a } else { b }
 }
 
-// Prints the line of a refusal.
+// Lays octets over the text from the place `used` on, where they fit, and tells where they end.
+fn put(text: &mut [u8], used: usize, s: &[u8]) -> usize {
+    if octets::copy_at(text, used, s) {
+        return used + s.len();
+    }
+    used
+}
+
+fn put_decimal(text: &mut [u8], used: usize, n: u64) -> usize {
+    let mut digits = [0u8; 20];
+    let k = io::decimal(n, &mut digits);
+    put(text, used, &digits[..k])
+}
+
+// Prints the line of a refusal, in one write.
 fn print_refusal(refusal: Refusal) {
-    let number = refusal.number;
-    let second = refusal.second;
-    io::write_all(STDOUT_FILENO, b"refused ");
-    io::print_decimal(STDOUT_FILENO, number as u64);
-    io::write_all(STDOUT_FILENO, b" ");
-    io::print_decimal(STDOUT_FILENO, second as u64);
-    print(b"\n");
+    // No number has more than twenty digits.
+    let mut text = [0u8; 50];
+    let a = put(&mut text, 0, b"refused ");
+    let b = put_decimal(&mut text, a, refusal.number as u64);
+    let c = put(&mut text, b, b" ");
+    let d = put_decimal(&mut text, c, refusal.second as u64);
+    let e = put(&mut text, d, b"\n");
+    print(octets::part(&text, 0, e));
 }
 
 // Prints the kind octet, the flags octet and the area, in one write; no area is longer than 4,076 octets.
@@ -52,7 +67,7 @@ fn print_area(kind: u8, flags: u8, area: &[u8]) {
 // Prints the answer for a sheet.
 fn print_answer(sheet: &[u8]) {
     let mut area = [0u8; 4076];
-    match writing::write(sheet, &mut area) {
+    match desk::write(sheet, &mut area) {
         Writing::Area {
             length,
             kind,

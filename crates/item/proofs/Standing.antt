@@ -1,18 +1,18 @@
 -- When some readable attribute gives an item: in forms 0 and 1 by the form of the value as it stands, in the others by the shape of
 -- the number. Assumes nothing.
-use mathlib.Core.Path.{_≡_, refl, sym, ap, subst, _∙_}
+use mathlib.Core.Path.{_≡_, refl, sym, subst, _∙_}
 use mathlib.Core.Logic.{_⊎_, inl, inr, ⊎-elim}
 use mathlib.Core.Bool.{Bool, true, false, cond, not, _&&_, _||_}
 use mathlib.Core.List.{List, [], _∷_}
-use Prim.Native.Nat.{ℕ, _+_, _-_, _<_, _≤_}
+use Prim.Native.Nat.{ℕ, _+_, _<_, _≤_}
 use native.Mathlib.Omega.{arith}
-use lib.Dec.{T, eqb, leb, eqb→eq, leb→le, eqb-refl}
-use borrow.Author.Tests.{lt-ltb, le-ltb, le-leb, lt-leb, eq-eqb, ne-eqb, eqb-true, ltb-false, ltb-true}
+use lib.Dec.{T, eqb, leb, eqb→eq, leb→le}
+use borrow.Author.Tests.{lt-ltb, le-ltb, le-leb, lt-leb, eq-eqb, ne-eqb, eqb-true}
 use lib.ListN.{length, take, drop}
-use Rattle.meaning.specs.Octets.{Octets, between, all, same, isDigit, isHex, packedLength, unpack, numberOf}
+use Rattle.meaning.specs.Octets.{between, all, same, isDigit, isHex, packedLength, unpack, numberOf}
 use Rattle.meaning.specs.Framing.{gpp, isPlain}
 use Rattle.meaning.specs.Shapes.{Shape, number, address, digits, hexadecimal, qos, hexDigit, anyOctet, decimalDigit, atLeast, exactly, blocks, free, plainShape, shapeOf, release, meets}
-use Rattle.meaning.specs.Sheet.{typeOf, subOf, formOf, storedOf, valueOf, decodes, form, stored, count, item, carries, numberIn, valueIn, storedLength}
+use Rattle.meaning.specs.Sheet.{typeOf, subOf, formOf, storedOf, valueOf, decodes, form, stored, count, item, carries, numberIn, storedLength}
 use Rattle.meaning.proofs.Tests.{both, parts, either, is-true, passes, same-one, same-itself}
 use Rattle.meaning.proofs.Packing.{unpack-length}
 use Rattle.meaning.proofs.Forms.{either-way, Decoded, Plainly}

@@ -1,14 +1,14 @@
 -- The way back from packed octets: halves come back from their text, the text is of digits, and an even count fills its octets.
 -- Assumes nothing.
-use mathlib.Core.Path.{_≡_, refl, sym, ap, _∙_}
-use mathlib.Core.Bool.{Bool, true, false, cond, _&&_, _||_}
+use mathlib.Core.Path.{_≡_, refl, ap, _∙_}
+use mathlib.Core.Bool.{Bool, true, false, cond}
 use mathlib.Core.List.{List, [], _∷_}
-use Prim.Native.Nat.{ℕ, zero, suc, _+_, _*_, _-_, _/_, _%_, _<_, _≤_}
+use Prim.Native.Nat.{ℕ, zero, suc, _+_, _*_, _<_, _≤_}
 use native.Mathlib.Omega.{arith}
 use lib.Dec.{T, leb}
 use borrow.Author.Tests.{le-leb, lt-leb, leb-true, leb-false}
 use lib.ListN.{length, length-map}
-use Rattle.meaning.specs.Octets.{Octets, all, between, isDigit, isHex, digitValue, digitText, values, text, pack, unpack, packedLength}
+use Rattle.meaning.specs.Octets.{Octets, all, isHex, digitValue, digitText, values, text, pack, unpack}
 use Rattle.meaning.proofs.Tests.{both}
 use Rattle.meaning.proofs.Packing.{Halves, Filled, pack-unpack, unpack-length, unpack-halves}
 

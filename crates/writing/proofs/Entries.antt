@@ -1,16 +1,15 @@
 -- An item that is found at a place of a sheet, and the attribute that it gives. Assumes nothing.
-use mathlib.Core.Path.{_≡_, refl, sym, ap, subst, _∙_}
-use mathlib.Core.Bool.{Bool, true, false, cond, _&&_}
+use mathlib.Core.Path.{_≡_, refl, sym, ap, _∙_}
+use mathlib.Core.Bool.{Bool, true, false, cond}
 use mathlib.Core.List.{List, [], _∷_, _++_}
-use Prim.Native.Nat.{ℕ, suc, _+_, _*_, _-_, _<_, _≤_}
+use Prim.Native.Nat.{ℕ, _+_, _-_, _<_, _≤_}
 use native.Mathlib.Omega.{arith}
-use lib.Dec.{T, eqb, leb, leb→le}
-use borrow.Author.Tests.{lt-ltb, le-ltb, ltb-true, ltb-false}
-use lib.ListN.{length, take, drop, getD, length-drop, length-append}
+use lib.Dec.{T, leb, leb→le}
+use lib.ListN.{length, drop, getD, length-drop, length-append}
 use lib.Seq.{length-take-le}
 use Rattle.meaning.specs.Octets.{Octets}
 use Rattle.meaning.specs.Framing.{isPlain}
-use Rattle.meaning.specs.Sheet.{attributeOctets, carries, numberIn, valueIn, storedLength, holds, entered}
+use Rattle.meaning.specs.Sheet.{attributeOctets, carries, numberIn, storedLength, holds}
 use Rattle.meaning.proofs.Octets.{octet-at, octets-take, octets-drop}
 use Rattle.meaning.proofs.Tests.{parts}
 use Rattle.meaning.proofs.Framing.{plain-lines, gpp-lines}
@@ -18,9 +17,9 @@ use Rattle.meaning.proofs.Items.{Accepted, entered-holds}
 use Rattle.octets.specs.Parts.{partOf}
 use Rattle.item.specs.Stands.{standsFor}
 use Rattle.item.specs.Answers.{enteredAt}
-use Rattle.item.proofs.Entering.{FoundItem, found-item}
+use Rattle.item.proofs.Entering.{found-item}
 use Rattle.writing.specs.Attributes.{headLength, valueLength, valueAs, attributeHead, Written}
-use Rattle.writing.proofs.Values.{Shown, shown}
+use Rattle.writing.proofs.Values.{shown}
 
 -- ---- An attribute by its head and its value
 

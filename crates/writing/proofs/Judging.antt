@@ -1,13 +1,13 @@
 -- The pass that judges: it goes over the items from the left and counts the octets of their attributes. Assumes nothing.
-use mathlib.Core.Path.{_≡_, refl, sym, ap, _∙_}
-use mathlib.Core.List.{List, [], _++_}
+use mathlib.Core.Path.{_≡_, sym, ap, _∙_}
+use mathlib.Core.List.{List}
 use Prim.Native.Nat.{ℕ, zero, suc, _^_, _+_, _*_, _-_, _<_, _≤_}
 use native.Mathlib.Omega.{arith}
-use lib.ListN.{length, take, drop, getD, length-append, length-take}
+use lib.ListN.{length, take, drop, length-append, length-take}
 use Rattle.meaning.specs.Octets.{Octets, numberOf}
 use Rattle.meaning.proofs.Numbers.{number-fits}
 use Rattle.meaning.proofs.Octets.{octets-take, octets-drop}
-use Rattle.meaning.specs.Framing.{Walk, end, broken, next, attributes}
+use Rattle.meaning.specs.Framing.{Walk, next, attributes}
 use Rattle.meaning.specs.Refusals.{none, refusal, fault}
 use Rattle.meaning.specs.Sheet.{attributeOctets, areaOf, itemsIn}
 use Rattle.area.specs.declared.Refusal.{Refusal}
@@ -18,7 +18,7 @@ use Rattle.item.specs.Answers.{enteredAt, enteredOf}
 use Rattle.item.proofs.Entering.{AnItem, an-item, a-refusal}
 use Rattle.writing.specs.declared.Judged.the-variants.{Items, Broken}
 use Rattle.writing.specs.Attributes.{headLength, valueLength}
-use Rattle.writing.specs.Answers.{judgedFrom, judgedOf}
+use Rattle.writing.specs.Answers.{judgedOf}
 use Rattle.writing.proofs.Entries.{Entry, entry-at, entry-long}
 use Rattle.writing.proofs.Walking.{itemsAt, items-start, items-enter, items-refuse, items-end, items-remain}
 

@@ -2,13 +2,13 @@
 -- Assumes nothing.
 use mathlib.Core.Path.{_≡_, refl, sym, ap, subst, _∙_}
 use mathlib.Core.List.{List, [], _∷_, _++_, append-nil, append-assoc}
-use Prim.Native.Nat.{ℕ, zero, suc, _+_, _*_, _-_, _<_, _≤_}
+use Prim.Native.Nat.{ℕ, _+_, _-_, _<_, _≤_}
 use native.Mathlib.Omega.{arith}
 use lib.ListN.{length, drop, getD, length-append}
 use Rattle.meaning.specs.Octets.{Octets, numberOf}
-use Rattle.meaning.specs.Framing.{Walk, end, broken, next, attributes}
-use Rattle.meaning.specs.Refusals.{none, refusal, fault}
-use Rattle.meaning.specs.Sheet.{attributeOctets, areaOf, holds, refused, itemsIn, areaIn, numberIn, storedLength, items}
+use Rattle.meaning.specs.Framing.{Walk, next, attributes}
+use Rattle.meaning.specs.Refusals.{none, fault}
+use Rattle.meaning.specs.Sheet.{attributeOctets, areaOf, holds, refused, areaIn, numberIn, storedLength, items}
 use Rattle.meaning.specs.Sheet as meant
 use Rattle.meaning.specs.Answers.{over}
 use Rattle.meaning.proofs.RoundTrip.{no-refusal}

@@ -1,23 +1,23 @@
 -- The value that an item stands for, by its form, and its length, where some readable attribute gives the item. Assumes nothing.
 use mathlib.Core.Path.{_≡_, refl, sym, ap, subst, _∙_}
 use mathlib.Core.Logic.{⊎-elim}
-use mathlib.Core.Bool.{Bool, true, false, cond, _&&_, _||_}
+use mathlib.Core.Bool.{Bool, true, false, _&&_}
 use mathlib.Core.List.{List, [], _∷_}
 use Prim.Native.Nat.{ℕ, suc, _+_, _*_, _-_, _/_, _%_, _<_, _≤_}
 use native.Mathlib.Omega.{arith}
 use lib.Dec.{T, eqb, leb, ltb, eqb→eq, leb→le}
 use borrow.Author.Tests.{lt-leb, le-leb, ne-eqb, ltb-true, ltb-false}
-use lib.ListN.{length, drop, getD, length-drop}
-use Rattle.meaning.specs.Octets.{Octets, digitText, text, unpack, packedLength}
+use lib.ListN.{length, getD}
+use Rattle.meaning.specs.Octets.{Octets, digitText, text, unpack}
 use Rattle.meaning.specs.Shapes.{Shape, number, address, digits, hexadecimal, qos, hexDigit, anyOctet, decimalDigit, atLeast, exactly, blocks, free, shapeOf}
 use Rattle.meaning.specs.Sheet.{subOf, formOf, valueOf, numberIn, valueIn, storedLength}
 use Rattle.meaning.proofs.Tests.{parts, either, is-true, passes}
 use Rattle.meaning.proofs.Packing.{unpack-length}
 use Rattle.shape.specs.Codes.{codeOf}
-use Rattle.item.specs.Stands.{standsFor, raw, held, shaped}
+use Rattle.item.specs.Stands.{standsFor, held, shaped}
 use Rattle.item.proofs.Texts.{text-length, whole-length}
-use Rattle.item.proofs.Held.{number-held, address-held, octet-held, hex-digit-held, decimal-digit-held, qos-held, qos-other}
-use Rattle.item.proofs.Standing.{raw-stands, shaped-stands}
+use Rattle.item.proofs.Held.{octet-held, hex-digit-held, decimal-digit-held, qos-held, qos-other}
+use Rattle.item.proofs.Standing.{shaped-stands}
 use Rattle.writing.specs.Attributes.{valueLength, profileText, valueAs}
 
 -- the value by the form is the value by the shape, of the announced length, and stored in some octets where form 6 and 7 ask for one

@@ -1,6 +1,5 @@
 -- A 3GPP value, a long one, a plain one, and one of type 26. Assumes nothing.
 use borrow.Author.Needs.{needs}
-use borrow.Author.Tests.{not-false}
 use mathlib.Core.Path.{_∙_}
 use native.Mathlib.Omega.{arith}
 use Rattle.item.proofs.Judging.{carries-3gpp, carries-long, carries-plain, carries-vendor}

@@ -1,8 +1,6 @@
 -- Another form, or what the shape of the number stores. Assumes nothing.
 use borrow.Author.Needs.{needs}
-use mathlib.Core.Path.{sym, ap, _∙_}
-use Prim.Native.Nat.{ℕ}
-use Rattle.meaning.specs.Sheet.{storedLength}
+use mathlib.Core.Path.{sym, _∙_}
 use Rattle.item.proofs.Judging.{shaped-other, shaped-held}
 use Rattle.item.proofs.is_shaped.Statement.{statement}
 use Rattle.item.proofs.is_shaped.Tie as tie

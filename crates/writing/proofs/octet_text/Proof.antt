@@ -1,7 +1,7 @@
 -- Any octet, or the text of a digit. Assumes nothing.
 use borrow.Author.Needs.{needs}
 use borrow.Author.Tests.{eq-eqb, ne-eqb}
-use mathlib.Core.Path.{sym, _∙_}
+use mathlib.Core.Path.{sym}
 use Rattle.writing.proofs.octet_text.Statement.{statement}
 use Rattle.writing.proofs.octet_text.Tie as tie
 

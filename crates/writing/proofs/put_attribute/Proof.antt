@@ -1,7 +1,5 @@
 -- The head, then the value. Assumes nothing.
 use borrow.Author.Needs.{needs}
-use native.Mathlib.Omega.{arith}
-use mathlib.Core.Path.{ap, _∙_}
 use Rattle.writing.proofs.Putting.{attribute-laid}
 use Rattle.writing.proofs.put_attribute.Statement.{statement}
 use Rattle.writing.proofs.put_attribute.Tie as tie

@@ -1,9 +1,6 @@
 -- A law for each form. Assumes nothing.
 use borrow.Author.Needs.{needs}
 use native.Mathlib.Omega.{arith}
-use Prim.Native.Nat.{ℕ}
-use mathlib.Core.Path.{ap, _∙_}
-use Rattle.meaning.specs.Octets.{text, unpack}
 use Rattle.octets.proofs.Overs.{laid-as}
 use Rattle.writing.proofs.Putting.{value-4, value-5, value-6, value-7, value-other, length-6}
 use Rattle.writing.proofs.put_value.Statement.{statement}
