@@ -29,6 +29,9 @@ extern "C" {
 /* Room that is enough for the sheet of an area of n octets. */
 #define GIR_SHEET_ROOM(n) (9 + 2 * (n))
 
+/* Room that is enough for the list of any area, in entries. */
+#define GIR_LIST_ROOM 6126
+
 /* Kinds of message. */
 #define GIR_ACCESS_REQUEST 1
 #define GIR_START 2
@@ -81,7 +84,7 @@ gir_answer gir_read(const uint8_t *area, size_t area_len, uint32_t kind, uint32_
 /* Checks the area; its breaches go to the list, a buffer of `room` entries, in rising order,
  * and `length` is their number. An entry is place x 1,048,576 + rule x 65,536 + type x 256 +
  * sub-attribute number, in the machine's own 32-bit numbers. Refuses by 1, 2, 3, then the
- * first attribute that fails by 4 to 8, then 10. */
+ * first attribute that fails by 4 to 8, then 10. A room of GIR_LIST_ROOM is always enough. */
 gir_answer gir_check(const uint8_t *area, size_t area_len, uint32_t kind, uint32_t flags,
                      uint32_t *list, size_t room);
 

@@ -11,7 +11,7 @@ void *memset(void *to, int octet, size_t n);
 
 enum {
     SHEET_ROOM = GIR_SHEET_ROOM(GIR_LONGEST_AREA),
-    LIST_ROOM = 6126,
+    LIST_ROOM = GIR_LIST_ROOM,
     BEHIND = 16,    /* octets or entries behind the room, which no entry may touch */
     BEFORE = 0xA5,  /* what a lent buffer holds before a call */
     ITEMS = 2039,   /* one item of two octets more than an area has room for */

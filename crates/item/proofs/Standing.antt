@@ -21,7 +21,7 @@ use Rattle.item.specs.Stands.{standsFor, raw, held, shaped}
 use Rattle.item.proofs.Texts.{text-length}
 
 -- tests that pass together are the same
-pub same-test : (a b : Bool) → (T a → T b) → (T b → T a) → a ≡ b
+same-test : (a b : Bool) → (T a → T b) → (T b → T a) → a ≡ b
 same-test true true h g = refl
 same-test true false h g = absurd (h tt)
 same-test false true h g = absurd (g tt)

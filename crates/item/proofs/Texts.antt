@@ -35,7 +35,7 @@ text-hex n h = go (leb n 9) refl
         let g : 9 < n = leb-false n 9 e in
         rw (le-leb 48 (n + 55) (omega arith), lt-leb (n + 55) 57 (omega arith), le-leb 65 (n + 55) (omega arith), le-leb (n + 55) 70 (omega arith)) tt
 
-pub text-hexes : (l : List ℕ) → Halves l → T (all isHex (text l))
+text-hexes : (l : List ℕ) → Halves l → T (all isHex (text l))
 unfolding text
 text-hexes [] h = tt
 text-hexes (x ∷ l) h = both (isHex (digitText x)) (all isHex (text l)) (text-hex x (h .0)) (text-hexes l (h .1))

@@ -3,12 +3,12 @@
 use area::Refusal;
 ghost use mathlib.Core.Path.{_≡_};
 ghost use mathlib.Core.Bool.{_&&_};
-ghost use Prim.Native.Nat.{_+_, _≤_, _/_};
+ghost use Prim.Native.Nat.{_/_};
 ghost use lib.Dec.{eqb, leb};
 ghost use lib.ListN.{length, getD};
 ghost use Rattle.meaning.specs.Octets.{packedLength};
-ghost use Rattle.meaning.specs.Shapes.{digits, qos, shapeOf};
-ghost use Rattle.meaning.specs.Sheet.{formOf, numberIn};
+ghost use Rattle.meaning.specs.Shapes.{digits, qos};
+ghost use Rattle.meaning.specs.Sheet.{numberIn};
 ghost use Rattle.meaning.specs.Sheet as meant;
 ghost use Rattle.shape.specs.Codes.{shapeBy};
 ghost use Rattle.item.specs.Stands.{otherVendor, held, shaped, raw, standsFor};

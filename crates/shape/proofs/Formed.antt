@@ -102,7 +102,8 @@ low-digit [] l t = absurd (omega arith)
 low-digit (x ∷ []) l t = rw (mod-eq-of-lt (values-halves (x ∷ []) t .0))
 low-digit (x ∷ y ∷ v) l t = absurd (omega arith)
 
-one-octet : (v : List ℕ) → length v ≡ 1 → v ≡ getD v 0 0 ∷ []
+-- one octet is the list of it
+pub one-octet : (v : List ℕ) → length v ≡ 1 → v ≡ getD v 0 0 ∷ []
 one-octet [] l = absurd (omega arith)
 one-octet (x ∷ []) l = refl
 one-octet (x ∷ y ∷ v) l = absurd (omega arith)

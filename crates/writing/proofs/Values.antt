@@ -14,6 +14,7 @@ use Rattle.meaning.specs.Sheet.{subOf, formOf, valueOf, numberIn, valueIn, stor
 use Rattle.meaning.proofs.Tests.{parts, either, is-true, passes}
 use Rattle.meaning.proofs.Packing.{unpack-length}
 use Rattle.shape.specs.Codes.{codeOf}
+use Rattle.shape.proofs.Formed.{one-octet}
 use Rattle.item.specs.Stands.{standsFor, held, shaped}
 use Rattle.item.proofs.Texts.{text-length, whole-length}
 use Rattle.item.proofs.Held.{octet-held, hex-digit-held, decimal-digit-held, qos-held, qos-other}
@@ -25,12 +26,6 @@ record Told (s : Shape) (n f c : ℕ) (st : List ℕ) : Type 0 where
   value-is : valueOf s c st ≡ valueAs n f c st
   value-long : length (valueAs n f c st) ≡ valueLength f c
   some : 6 ≤ f → 1 ≤ length st
-
--- one octet is the list of it
-one-octet : (st : List ℕ) → length st ≡ 1 → st ≡ getD st 0 0 ∷ []
-one-octet [] h = absurd (omega arith)
-one-octet (x ∷ []) h = refl
-one-octet (x ∷ y ∷ st) h = absurd (omega arith)
 
 -- the text of a digit
 one-text : (st : List ℕ) → length st ≡ 1 → getD st 0 0 < 16 → text st ≡ digitText (getD st 0 0 % 16) ∷ []
