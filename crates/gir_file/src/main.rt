@@ -1,0 +1,795 @@
+// gir_file: files the sheet of an attribute area. `gir_file IN OUT` takes IN, a kind octet, a flags octet and an area, and makes its sheet
+// stand at OUT; `gir_file -` does so for each line `IN<TAB>OUT` of standard input. Each gets one line of answer: `filed N`, `refused N S`,
+// `short` or `trouble STEP`, and standard error says why. Here a step is performed; which one comes then, `filing::next` decides.
+use desk::Reading;
+use desk::Refusal;
+use desk::Writing;
+use filing::Answer;
+use filing::Line;
+use filing::Step;
+use libc::STDERR_FILENO;
+use libc::STDIN_FILENO;
+use libc::STDOUT_FILENO;
+ghost use mathlib.Core.Path.{_≡_};
+ghost use Prim.Native.Nat.{min};
+
+// What a run carries from step to step: the descriptor that is open, the octets taken, the octets of the whole of IN, the octets of the
+// sheet, and the octets of the answer line, once something has failed.
+struct Work {
+    fd: i32,
+    kept: usize,
+    all: u64,
+    sheet: usize,
+    said: usize,
+}
+
+// A step's answer, and what is carried on.
+struct Done {
+    answer: Answer,
+    work: Work,
+}
+
+// What a descriptor gives, read to a buffer's end or to its own.
+enum Filled {
+    Octets(usize),
+    Failed,
+}
+
+// What one more read gives.
+enum Chunk {
+    Octets(u64),
+    End,
+    Failed,
+}
+
+// The octets of the whole of IN, or that a read failed.
+enum Counted {
+    All(u64),
+    Failed,
+}
+
+// What stands at a path: nothing, a link, something else, or the system does not say.
+enum Stands {
+    Nothing,
+    Link,
+    Other,
+    Unknown,
+}
+
+// How far the octets that were read of standard input are used.
+struct Feed {
+    at: usize,
+    have: usize,
+}
+
+// The next octet of standard input.
+enum Fed {
+    Octet { value: u8, feed: Feed },
+    End,
+    Failed,
+}
+
+// The next line of standard input: its octets, or that it has no line feed, or that there is none.
+enum Lined {
+    Whole { len: usize, feed: Feed },
+    Cut,
+    End,
+    Failed,
+}
+
+// ---- What is said
+
+// Puts octets behind what the answer line holds.
+fn put(line: &mut [u8], used: usize, s: &[u8]) -> usize {
+    if octets::copy_at(line, used, s) {
+        return used + s.len();
+    }
+    used
+}
+
+fn put_decimal(line: &mut [u8], used: usize, n: u64) -> usize {
+    let mut text = [0u8; 20];
+    let k = io::decimal(n, &mut text);
+    put(line, used, &text[..k])
+}
+
+fn put_trouble(line: &mut [u8], word: &[u8]) -> usize {
+    let a = put(line, 0, b"trouble ");
+    let b = put(line, a, word);
+    put(line, b, b"\n")
+}
+
+fn put_filed(line: &mut [u8], sheet: usize) -> usize {
+    let a = put(line, 0, b"filed ");
+    let b = put_decimal(line, a, sheet as u64);
+    put(line, b, b"\n")
+}
+
+// The octets of the area, of all that IN has.
+fn area_length(all: u64) -> u64 {
+    if all < 2 { 0 } else { all - 2 }
+}
+
+// The line of a refusal; 3 tells the length of the whole area, of which only a part was kept.
+fn put_refusal(line: &mut [u8], refusal: Refusal, all: u64) -> usize {
+    let number = refusal.number;
+    let second = refusal.second;
+    let a = put(line, 0, b"refused ");
+    let b = put_decimal(line, a, number as u64);
+    let c = put(line, b, b" ");
+    if number == 3 {
+        let d = put_decimal(line, c, area_length(all));
+        return put(line, d, b"\n");
+    }
+    let d = put_decimal(line, c, second as u64);
+    put(line, d, b"\n")
+}
+
+// Says on standard error which step failed, at which file, and the system's reason.
+fn fail(word: &[u8], name: &[u8]) {
+    io::write_all(STDERR_FILENO, b"gir_file: ");
+    io::write_all(STDERR_FILENO, word);
+    io::write_all(STDERR_FILENO, b": ");
+    os::fail(name);
+}
+
+// The same with a reason of our own.
+fn complain(word: &[u8], name: &[u8], reason: &[u8]) {
+    io::write_all(STDERR_FILENO, b"gir_file: ");
+    io::write_all(STDERR_FILENO, word);
+    io::write_all(STDERR_FILENO, b": ");
+    io::write_all(STDERR_FILENO, name);
+    io::write_all(STDERR_FILENO, b": ");
+    io::write_all(STDERR_FILENO, reason);
+    io::write_all(STDERR_FILENO, b"\n");
+}
+
+// Writes an answer line; whether standard output took it.
+fn print(line: &[u8]) -> bool {
+    if io::write_all(STDOUT_FILENO, line) {
+        return true;
+    }
+    fail(b"answer", b"standard output");
+    false
+}
+
+// ---- How a step went
+
+fn well(work: Work) -> Done {
+    Done {
+        answer: Answer::Well,
+        work,
+    }
+}
+
+// A step that went badly, with so many octets in the answer line.
+fn badly(work: Work, said: usize) -> Done {
+    Done {
+        answer: Answer::Badly,
+        work: Work {
+            fd: work.fd,
+            kept: work.kept,
+            all: work.all,
+            sheet: work.sheet,
+            said,
+        },
+    }
+}
+
+// A step that failed for the system's reason.
+fn failed(line: &mut [u8], work: Work, word: &[u8], name: &[u8]) -> Done {
+    fail(word, name);
+    badly(work, put_trouble(line, word))
+}
+
+// A step that failed for a reason of our own.
+fn wrong(line: &mut [u8], work: Work, word: &[u8], name: &[u8], reason: &[u8]) -> Done {
+    complain(word, name, reason);
+    badly(work, put_trouble(line, word))
+}
+
+// A step that clears up; where it fails, the answer line stays what it is.
+fn cleared(ok: bool, work: Work, word: &[u8], name: &[u8]) -> Done {
+    if ok {
+        return well(work);
+    }
+    fail(word, name);
+    badly(work, work.said)
+}
+
+fn with_fd(work: Work, fd: i32) -> Work {
+    Work {
+        fd,
+        kept: work.kept,
+        all: work.all,
+        sheet: work.sheet,
+        said: work.said,
+    }
+}
+
+// ---- Reading files
+
+fn least(a: usize, b: usize) -> usize
+    ensures { λ r. ⌜ r ≡ min a b ⌝ }
+{
+    if a < b { a } else { b }
+}
+
+// One read into the buffer from a place on.
+fn read_at(fd: i32, buf: &mut [u8], at: usize) -> Filled {
+    if buf.len() < at {
+        return Filled::Octets(0);
+    }
+    let got = libc::read(fd, &mut buf[at..]);
+    if got < 0 {
+        return Filled::Failed;
+    }
+    Filled::Octets(io::count(got, &buf[at..]))
+}
+
+// Reads until the buffer is full or the file ends; unlike `io::read_full` it tells a failure from an end.
+fn fill(fd: i32, buf: &mut [u8]) -> Filled {
+    let mut at: usize = 0;
+    while at < buf.len() {
+        match read_at(fd, buf, at) {
+            Filled::Octets(got) => {
+                let n = least(got, buf.len() - at);
+                if n == 0 {
+                    return Filled::Octets(at);
+                }
+                at += n;
+            }
+            Filled::Failed => {
+                return Filled::Failed;
+            }
+        }
+    }
+    Filled::Octets(at)
+}
+
+// Reads past what is kept, and tells how much came.
+fn more(fd: i32) -> Chunk {
+    let mut buf = io::buffer();
+    let got = libc::read(fd, &mut buf);
+    if got < 0 {
+        return Chunk::Failed;
+    }
+    let n = io::count(got, &buf);
+    if n == 0 {
+        return Chunk::End;
+    }
+    Chunk::Octets(n as u64)
+}
+
+// Counts a file to its end, with the octets had already; at most the largest 64-bit number.
+fn count(fd: i32, had: u64) -> Counted {
+    let mut total = had;
+    let mut turns = u64::MAX;
+    while turns > 0 {
+        match more(fd) {
+            Chunk::Octets(n) => {
+                if n > u64::MAX - total {
+                    return Counted::All(u64::MAX);
+                }
+                total += n;
+                turns -= 1;
+            }
+            Chunk::End => {
+                return Counted::All(total);
+            }
+            Chunk::Failed => {
+                return Counted::Failed;
+            }
+        }
+    }
+    Counted::All(total)
+}
+
+// ---- The steps
+
+// Take: IN, or as much of it as decides the answer, and its length; the 4,077th octet of an area is enough to know that it is too long.
+fn take(input: &[u8], payload: &mut [u8], line: &mut [u8], work: Work) -> Done {
+    let fd = os::open_read(input);
+    if fd < 0 {
+        return failed(line, work, b"in", input);
+    }
+    let Filled::Octets(kept) = fill(fd, payload) else {
+        let done = failed(line, work, b"in", input);
+        libc::close(fd);
+        return done;
+    };
+    let Counted::All(all) = count(fd, kept as u64) else {
+        let done = failed(line, work, b"in", input);
+        libc::close(fd);
+        return done;
+    };
+    libc::close(fd);
+    well(Work {
+        fd: work.fd,
+        kept,
+        all,
+        sheet: work.sheet,
+        said: work.said,
+    })
+}
+
+fn wide(x: u8) -> u32 {
+    x as u32
+}
+
+// Read: the sheet of the area.
+fn make_sheet(taken: &[u8], sheet: &mut [u8], line: &mut [u8], work: Work) -> Done {
+    if taken.len() < 2 {
+        return badly(work, put(line, 0, b"short\n"));
+    }
+    let kind = wide(taken[0]);
+    let flags = wide(taken[1]);
+    match desk::read(&taken[2..], kind, flags, sheet) {
+        Reading::Sheet(n) => {
+            return well(Work {
+                fd: work.fd,
+                kept: work.kept,
+                all: work.all,
+                sheet: n,
+                said: work.said,
+            });
+        }
+        Reading::Refused(refusal) => {
+            return badly(work, put_refusal(line, refusal, work.all));
+        }
+    }
+}
+
+// Return: the sheet gives back what was taken.
+fn go_back(input: &[u8], taken: &[u8], sheet: &[u8], line: &mut [u8], work: Work) -> Done {
+    let mut area = [0u8; 4076];
+    match desk::write(sheet, &mut area) {
+        Writing::Area {
+            length,
+            kind,
+            flags,
+        } => {
+            if filing::came_back(taken, kind, flags, octets::part(&area, 0, length)) {
+                return well(work);
+            }
+            return wrong(
+                line,
+                work,
+                b"return",
+                input,
+                b"its sheet gives another area",
+            );
+        }
+        Writing::Refused(_) => {
+            return wrong(line, work, b"return", input, b"its sheet gives no area");
+        }
+    }
+}
+
+// A path with the 0 that ends it.
+fn ended(path: &[u8]) -> [u8; 4096] {
+    let mut text = io::buffer();
+    octets::copy_at(&mut text, 0, path);
+    text
+}
+
+// What stands at a path. The question is put by `readlink`, which follows no link: EINVAL is its answer for what is no link.
+fn what_stands(path: &[u8]) -> Stands {
+    let mut text = ended(path);
+    text[4095] = 0;
+    let mut link = [0u8; 1];
+    let got = libc::readlink(&text, &mut link);
+    if got >= 0 {
+        return Stands::Link;
+    }
+    let error = os::errno();
+    if error == libc::ENOENT {
+        return Stands::Nothing;
+    }
+    if error == libc::EINVAL {
+        return Stands::Other;
+    }
+    Stands::Unknown
+}
+
+// Look, LookAgain: nothing stands at OUT.
+fn look(out: &[u8], line: &mut [u8], work: Work) -> Done {
+    match what_stands(out) {
+        Stands::Nothing => well(work),
+        Stands::Link => wrong(
+            line,
+            work,
+            b"out",
+            out,
+            b"a link of this name stands already",
+        ),
+        Stands::Other => wrong(
+            line,
+            work,
+            b"out",
+            out,
+            b"a file of this name stands already",
+        ),
+        Stands::Unknown => failed(line, work, b"out", out),
+    }
+}
+
+// Create: the temporary file, new.
+fn create(temp: &[u8], line: &mut [u8], work: Work) -> Done {
+    let fd = os::create(temp);
+    if fd < 0 {
+        return failed(line, work, b"create", temp);
+    }
+    well(with_fd(work, fd))
+}
+
+// Write: the sheet, whole.
+fn write(temp: &[u8], sheet: &[u8], line: &mut [u8], work: Work) -> Done {
+    if io::write_all(work.fd, sheet) {
+        return well(work);
+    }
+    failed(line, work, b"write", temp)
+}
+
+// Sync: the temporary file is on the disk.
+fn sync(temp: &[u8], line: &mut [u8], work: Work) -> Done {
+    if libc::fsync(work.fd) < 0 {
+        return failed(line, work, b"sync", temp);
+    }
+    well(work)
+}
+
+// Close: the temporary file.
+fn close(temp: &[u8], line: &mut [u8], work: Work) -> Done {
+    if libc::close(work.fd) < 0 {
+        return failed(line, work, b"close", temp);
+    }
+    well(work)
+}
+
+// Open: the temporary file again.
+fn open(temp: &[u8], line: &mut [u8], work: Work) -> Done {
+    let fd = os::open_read(temp);
+    if fd < 0 {
+        return failed(line, work, b"open", temp);
+    }
+    well(with_fd(work, fd))
+}
+
+// Compare: what is there is the sheet, no octet more and none less; closes the file. No sheet is longer than 8,161 octets.
+fn compare(temp: &[u8], sheet: &[u8], line: &mut [u8], work: Work) -> Done {
+    let mut back = [0u8; 8162];
+    let Filled::Octets(n) = fill(work.fd, &mut back) else {
+        let done = failed(line, work, b"compare", temp);
+        libc::close(work.fd);
+        return done;
+    };
+    libc::close(work.fd);
+    if filing::equal(octets::part(&back, 0, n), sheet) {
+        return well(work);
+    }
+    wrong(
+        line,
+        work,
+        b"compare",
+        temp,
+        b"it holds something else than the sheet",
+    )
+}
+
+// Whether the folder of a path is on the disk.
+fn folder_synced(folder: &[u8]) -> bool {
+    let fd = os::open_read(folder);
+    if fd < 0 {
+        return false;
+    }
+    if libc::fsync(fd) < 0 {
+        libc::close(fd);
+        return false;
+    }
+    libc::close(fd);
+    true
+}
+
+// SyncName, SyncFolder: OUT's folder is on the disk, with the names in it.
+fn sync_folder(out: &[u8], line: &mut [u8], work: Work, word: &[u8]) -> Done {
+    let n = filing::folder_len(out);
+    if n == 0 {
+        if folder_synced(b".") {
+            return well(work);
+        }
+        return failed(line, work, word, b".");
+    }
+    let folder = octets::part(out, 0, n);
+    if folder_synced(folder) {
+        return well(work);
+    }
+    failed(line, work, word, folder)
+}
+
+// Rename: the temporary file gets the name OUT.
+fn rename(temp: &[u8], out: &[u8], line: &mut [u8], work: Work) -> Done {
+    if os::rename(temp, out) < 0 {
+        return failed(line, work, b"rename", out);
+    }
+    well(work)
+}
+
+// The name under which a withdrawn sheet is kept: the temporary file's, with `.kept` for `.tmp`. Tells its octets.
+fn put_kept(temp: &[u8], name: &mut [u8]) -> usize {
+    let n = temp.len();
+    if n < 4 {
+        return 0;
+    }
+    octets::copy_at(name, 0, temp);
+    put(name, n - 4, b".kept")
+}
+
+// Withdraw: the sheet at OUT gets the name under which it is kept, if that is free.
+fn withdraw(temp: &[u8], out: &[u8], work: Work) -> Done {
+    let mut space = io::buffer();
+    let n = put_kept(temp, &mut space);
+    let kept = octets::part(&space, 0, n);
+    let Stands::Nothing = what_stands(kept) else {
+        complain(
+            b"withdraw",
+            out,
+            b"it stays, since another sheet is kept already",
+        );
+        return badly(work, work.said);
+    };
+    if os::rename(out, kept) < 0 {
+        return cleared(false, work, b"withdraw", out);
+    }
+    complain(b"withdraw", kept, b"the whole sheet is kept here");
+    well(work)
+}
+
+// Performs a step.
+fn perform(
+    step: Step,
+    input: &[u8],
+    out: &[u8],
+    temp: &[u8],
+    payload: &mut [u8],
+    sheet: &mut [u8],
+    line: &mut [u8],
+    work: Work,
+) -> Done {
+    let kept = work.kept;
+    let len = work.sheet;
+    match step {
+        Step::Take => take(input, payload, line, work),
+        Step::Read => make_sheet(octets::part(payload, 0, kept), sheet, line, work),
+        Step::Return => go_back(
+            input,
+            octets::part(payload, 0, kept),
+            octets::part(sheet, 0, len),
+            line,
+            work,
+        ),
+        Step::Look => look(out, line, work),
+        Step::Create => create(temp, line, work),
+        Step::Write => write(temp, octets::part(sheet, 0, len), line, work),
+        Step::Sync => sync(temp, line, work),
+        Step::Close => close(temp, line, work),
+        Step::Open => open(temp, line, work),
+        Step::Compare => compare(temp, octets::part(sheet, 0, len), line, work),
+        Step::SyncName => sync_folder(out, line, work, b"name"),
+        Step::LookAgain => look(out, line, work),
+        Step::Rename => rename(temp, out, line, work),
+        Step::SyncFolder => sync_folder(out, line, work, b"folder"),
+        Step::Abandon => cleared(libc::close(work.fd) >= 0, work, b"close", temp),
+        Step::Remove => cleared(os::unlink(temp) >= 0, work, b"remove", temp),
+        Step::Withdraw => withdraw(temp, out, work),
+        Step::Filed => well(work),
+        Step::Failed => well(work),
+        Step::Kept => well(work),
+    }
+}
+
+// Files one sheet, step by step, and puts its answer line; tells the line's octets.
+fn file(input: &[u8], out: &[u8], temp: &[u8], line: &mut [u8]) -> usize {
+    let mut payload = [0u8; 4079];
+    let mut sheet = [0u8; 8161];
+    let mut work = Work {
+        fd: -1,
+        kept: 0,
+        all: 0,
+        sheet: 0,
+        said: 0,
+    };
+    let mut step = Step::Take;
+    while filing::steps_left(step) > 0 {
+        let done = perform(step, input, out, temp, &mut payload, &mut sheet, line, work);
+        let answer = done.answer;
+        let carried = done.work;
+        step = filing::next(step, answer);
+        work = carried;
+    }
+    if let Step::Filed = step {
+        return put_filed(line, work.sheet);
+    }
+    work.said
+}
+
+// Files the sheet of IN at OUT and prints the answer; whether standard output took it.
+fn answer(input: &[u8], out: &[u8]) -> bool {
+    let mut name = io::buffer();
+    let n = filing::temporary(out, &mut name);
+    if n == 0 {
+        complain(b"names", out, b"the name is too long");
+        return print(b"trouble names\n");
+    }
+    let mut space = [0u8; 64];
+    let line: &mut [u8] = &mut space;
+    let said = file(input, out, octets::part(&name, 0, n), line);
+    print(octets::part(line, 0, said))
+}
+
+// ---- One pair of names, or a list
+
+// Says what is wrong with a line of the list, and answers it; whether standard output took the answer.
+fn no_names(line: &[u8], reason: &[u8]) -> bool {
+    complain(b"names", line, reason);
+    print(b"trouble names\n")
+}
+
+// Answers a line of the list.
+fn record(line: &[u8]) -> bool {
+    match filing::split(line) {
+        Line::Names(tab) => {
+            if tab < line.len() {
+                return answer(
+                    octets::part(line, 0, tab),
+                    octets::part(line, tab + 1, line.len()),
+                );
+            }
+            return false;
+        }
+        Line::NoTab => no_names(line, b"no tab stands between two names"),
+        Line::TwoTabs => no_names(line, b"more than one tab"),
+        Line::NoName => no_names(line, b"an empty name"),
+        Line::ZeroOctet => no_names(line, b"an octet 0 in a name"),
+        Line::TooLong => no_names(b"a line", b"a name is too long"),
+    }
+}
+
+// The next octet of standard input, read ahead by the buffer's length.
+fn octet(buf: &mut [u8], feed: Feed) -> Fed {
+    let at = feed.at;
+    let have = feed.have;
+    if at < have {
+        if at < buf.len() {
+            return Fed::Octet {
+                value: buf[at],
+                feed: Feed { at: at + 1, have },
+            };
+        }
+    }
+    let got = libc::read(STDIN_FILENO, buf);
+    if got < 0 {
+        return Fed::Failed;
+    }
+    let n = io::count(got, buf);
+    if n == 0 {
+        return Fed::End;
+    }
+    Fed::Octet {
+        value: buf[0],
+        feed: Feed { at: 1, have: n },
+    }
+}
+
+// The next line of standard input, without its line feed. Of a line that is longer than there is room, and so names no two files, the
+// first octets are kept.
+fn next_line(buf: &mut [u8], start: Feed, line: &mut [u8]) -> Lined {
+    let mut feed = start;
+    let mut len: usize = 0;
+    let mut turns = u64::MAX;
+    while turns > 0 {
+        match octet(buf, feed) {
+            Fed::Octet { value, feed: then } => {
+                if value == b'\n' {
+                    return Lined::Whole { len, feed: then };
+                }
+                len = put(line, len, &[value]);
+                feed = then;
+                turns -= 1;
+            }
+            Fed::End => {
+                if len == 0 {
+                    return Lined::End;
+                }
+                return Lined::Cut;
+            }
+            Fed::Failed => {
+                return Lined::Failed;
+            }
+        }
+    }
+    Lined::Failed
+}
+
+// Answers the lines of standard input, one by one, until it ends or standard output takes no more.
+fn answer_all() {
+    let mut space = io::large_buffer();
+    let buf: &mut [u8] = &mut space;
+    let mut text = [0u8; 8192];
+    let line: &mut [u8] = &mut text;
+    let mut feed = Feed { at: 0, have: 0 };
+    let mut turns = u64::MAX;
+    while turns > 0 {
+        match next_line(buf, feed, line) {
+            Lined::Whole { len, feed: then } => {
+                if !record(octets::part(line, 0, len)) {
+                    return;
+                }
+                feed = then;
+                turns -= 1;
+            }
+            Lined::Cut => {
+                no_names(b"the last line", b"it has no line feed");
+                return;
+            }
+            Lined::End => {
+                return;
+            }
+            Lined::Failed => {
+                fail(b"names", b"standard input");
+                return;
+            }
+        }
+    }
+}
+
+// Files the sheet of the first argument at the second.
+fn answer_arguments() {
+    let mut input = io::buffer();
+    let n = os::arg(1, &mut input);
+    if os::errno() != 0 {
+        fail(b"names", b"IN");
+        print(b"trouble names\n");
+        return;
+    }
+    let mut out = io::buffer();
+    let m = os::arg(2, &mut out);
+    if os::errno() != 0 {
+        fail(b"names", b"OUT");
+        print(b"trouble names\n");
+        return;
+    }
+    if (n == 0) | (m == 0) {
+        no_names(b"IN, OUT", b"an empty name");
+        return;
+    }
+    answer(octets::part(&input, 0, n), octets::part(&out, 0, m));
+}
+
+// Whether the only argument asks for a list.
+fn is_list() -> bool {
+    let mut word = [0u8; 2];
+    let n = os::arg(1, &mut word);
+    if os::errno() != 0 {
+        return false;
+    }
+    filing::equal(octets::part(&word, 0, n), b"-")
+}
+
+fn main() {
+    let args = os::arg_count();
+    if args == 3 {
+        answer_arguments();
+        return;
+    }
+    if args == 2 {
+        if is_list() {
+            answer_all();
+            return;
+        }
+    }
+    io::write_all(
+        STDERR_FILENO,
+        b"gir_file: IN and OUT, or - and a list on standard input\n",
+    );
+}
