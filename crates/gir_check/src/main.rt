@@ -182,6 +182,11 @@ fn answer(fd: i32, name: &[u8]) {
         fail(name);
         return;
     };
+    // More behind what seemed the end: a read failed in between.
+    if (kept < 4079) & (all > kept as u64) {
+        fail(name);
+        return;
+    }
     print_answer(octets::part(&buf, 0, kept), all);
 }
 

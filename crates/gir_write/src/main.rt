@@ -123,6 +123,11 @@ fn answer(fd: i32, name: &[u8]) {
             print_answer(octets::part(&buf, 0, kept));
         }
         Rest::More => {
+            // More behind what seemed the end: a read failed in between.
+            if kept < buf.len() {
+                fail(name);
+                return;
+            }
             too_long(name);
         }
         Rest::Failed => {
