@@ -210,3 +210,7 @@ module _ (out : List ℕ) where
   -- with room the name stands
   pub named-whole : (d held : List ℕ) → length out + 9 ≤ length d → held ≡ laidAt 0 (temporaryName out) d → Named out d (length out + 9) held
   named-whole d held h e = record { says = rw (le-leb (length out + 9) (length d) h); holds = e }
+
+-- Any two answers that the promise of `temporary` permits are the same, the buffer included.
+pub one-name : (out buffer : List ℕ) (said said′ : ℕ) (held held′ : List ℕ) → Named out buffer said held → Named out buffer said′ held′ → (said ≡ said′) × (held ≡ held′)
+one-name out buffer said said′ held held′ p q = (p .says ∙ sym (q .says), p .holds ∙ sym (q .holds))

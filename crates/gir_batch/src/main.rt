@@ -224,10 +224,10 @@ fn skip(count: usize) -> bool {
     true
 }
 
-// Says on standard error if the input does not end here, but cannot be read.
+// Says on standard error if the input does not end here: a read failed, or one did and there is more behind it.
 fn at_end() {
     let mut one = [0u8; 1];
-    if libc::read(STDIN_FILENO, &mut one) < 0 {
+    if libc::read(STDIN_FILENO, &mut one) != 0 {
         os::fail(b"gir_batch: standard input");
     }
 }
