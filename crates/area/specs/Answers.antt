@@ -1,11 +1,16 @@
 -- What the answers of this crate stand for, in the words of the meaning: a step by what stands at a place, the framing of an area by
 -- its walk. Assumes nothing.
 use Prim.Native.Nat.{ℕ, _+_, _-_}
-use lib.ListN.{length}
+use mathlib.Core.Bool.{cond, _&&_}
 use mathlib.Core.List.{List}
-use Rattle.meaning.specs.Framing.{Found, attribute, refused, nothing, Walk, walk, attributes}
+use lib.Dec.{eqb, ltb}
+use lib.ListN.{length, getD}
+use Rattle.meaning.specs.Octets.{numberOf}
+use Rattle.meaning.specs.Framing.{gpp, isPlain, vendor3gpp, Found, attribute, refused, nothing, Walk, walk, attributes}
+use Rattle.octets.specs.Parts.{partOf}
 use Rattle.meaning.specs.Refusals as book
 use Rattle.area.specs.declared.Refusal.{Refusal}
+use Rattle.area.specs.declared.Carried.{Carried}
 use Rattle.area.specs.declared.Step.{Step}
 use Rattle.area.specs.declared.Step.the-variants.{Attribute, Refused, End}
 use Rattle.area.specs.declared.Framing.{Framing}
@@ -38,3 +43,27 @@ framingOf w = framingFrom (book.fault w) (length (attributes w))
 -- an area that comes with kind and flags, by the first of 1 to 8 that applies
 unfoldable pub admittedOf : (kind flags : ℕ) → List ℕ → Framing
 admittedOf kind flags area = framingFrom (book.areaRefusal kind flags area) (length (attributes (walk area)))
+
+-- the octets before the value of an attribute that carries a number
+unfoldable pub headLength : (number : ℕ) → ℕ
+headLength n = cond (isPlain n) 2 8
+
+-- the number that is carried at a place: of type 26 with vendor 10415 the sub-attribute's, else the type
+unfoldable pub numberAt : List ℕ → (place : ℕ) → ℕ
+numberAt l p =
+    cond (eqb (getD l p 0) 26 && eqb (numberOf (partOf l (p + 2) 4)) vendor3gpp) (gpp (getD l (p + 6) 0)) (getD l p 0)
+
+-- what a well framed area carries at a place, with the number already told
+unfoldable pub carriedAs : (number : ℕ) → List ℕ → (place : ℕ) → Carried
+carriedAs n l p =
+    record {
+      number = n;
+      value = record { start = p + headLength n; len = getD l (p + 1) 0 - headLength n };
+      next = p + getD l (p + 1) 0;
+    }
+
+-- what a well framed area carries at a place; nothing at its end
+unfoldable pub carriedAt : List ℕ → (place : ℕ) → Carried
+carriedAt l p =
+    cond (ltb p (length l)) (carriedAs (numberAt l p) l p)
+    (record { number = 0; value = record { start = p; len = 0 }; next = p })

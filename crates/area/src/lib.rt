@@ -1,11 +1,11 @@
 // The framing of an attribute area: what stands at a place of it, and whether it is well framed.
 ghost use mathlib.Core.Path.{_≡_};
-ghost use Prim.Native.Nat.{_+_, _^_, _<_, _≤_};
+ghost use Prim.Native.Nat.{_+_, _-_, _^_, _<_, _≤_};
 ghost use lib.ListN.{length, drop};
 ghost use Rattle.meaning.specs.Jobs.{isKind, areFlags};
 ghost use Rattle.meaning.specs.Framing.{vendorFound, foundAt, walk};
 ghost use Rattle.meaning.specs.Framing as meant;
-ghost use Rattle.area.specs.Answers.{stepOf, framingOf, admittedOf};
+ghost use Rattle.area.specs.Answers.{stepOf, framingOf, headLength, numberAt, carriedAt, admittedOf};
 
 // A refusal of the book: its number and its second number.
 pub struct Refusal {
@@ -29,6 +29,13 @@ pub enum Step {
     },
     Refused(Refusal),
     End,
+}
+
+// What a well framed area carries at a place: the number, the value and the place behind the attribute.
+pub struct Carried {
+    pub number: u16,
+    pub value: Part,
+    pub next: usize,
 }
 
 // The framing of a whole area: how many attributes it has, or the first refusal.
@@ -151,6 +158,64 @@ pub fn survey(area: &[u8]) -> Framing
                 return Framing::Whole(count);
             }
         }
+    }
+}
+
+// The number that is carried at a place.
+fn number_at(area: &[u8], place: usize) -> u16
+    requires { ⌜ place < length (now area) ⌝ }
+    ensures { λ r. ⌜ r ≡ numberAt (now (area .entry)) place ⌝ }
+{
+    let t = area[place];
+    if t != 26 {
+        return plain(t);
+    }
+    let vendor = octets::u32_at(area, place + 2);
+    if vendor != 10415 {
+        return plain(t);
+    }
+    gpp(octets::octet_at(area, place + 6))
+}
+
+// The octets before the value of an attribute that carries a number.
+pub fn head_len(number: u16) -> usize
+    ensures { λ r. ⌜ r ≡ headLength number ⌝ }
+{
+    if number < 256 { 2 } else { 8 }
+}
+
+// What is left of `size` behind a head.
+fn rest(size: usize, head: usize) -> usize
+    ensures { λ r. ⌜ r ≡ size - head ⌝ }
+{
+    if size < head { 0 } else { size - head }
+}
+
+// What an area that is known to be well framed carries at a place, with none of the tests of `step_at`; nothing at its end.
+pub fn carried_at(area: &[u8], place: usize) -> Carried
+    ensures { λ r. ⌜ r ≡ carriedAt (now (area .entry)) place ⌝ }
+{
+    if area.len() <= place {
+        return Carried {
+            number: 0,
+            value: Part {
+                start: place,
+                len: 0,
+            },
+            next: place,
+        };
+    }
+    let number = number_at(area, place);
+    let head = head_len(number);
+    let size = octets::wide(octets::octet_at(area, place + 1));
+    let next = place + size;
+    Carried {
+        number,
+        value: Part {
+            start: place + head,
+            len: rest(size, head),
+        },
+        next,
     }
 }
 

@@ -49,6 +49,13 @@ pub fn part(s: &[u8], at: usize, len: usize) -> &[u8]
     &s[at..end]
 }
 
+// The octet at a place, or 0 where there is none.
+pub fn octet_at(s: &[u8], at: usize) -> u8
+    ensures { λ r. ⌜ r ≡ getD (now (s .entry)) at 0 ⌝ }
+{
+    if at < s.len() { s[at] } else { 0 }
+}
+
 // The number that the octets of `s` stand for, at every width to 64 bits.
 fn number(s: &[u8]) -> u64
     requires { ⌜ length (now s) ≤ 8 ⌝ }

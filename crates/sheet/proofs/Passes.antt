@@ -7,19 +7,22 @@ use native.Mathlib.Omega.{arith}
 use lib.ListN.{length, drop, length-append, length-drop}
 use lib.Seq.{length-take-le}
 use Rattle.meaning.specs.Octets.{Octets}
-use Rattle.meaning.specs.Framing.{Attribute, Walk, end, broken, walk, walkAt, attributes}
+use Rattle.meaning.specs.Framing.{Attribute, Walk, walk, walkAt, attributes}
+use Rattle.meaning.specs.Refusals.{none, fault}
 use Rattle.meaning.specs.Sheet.{stored, item, itemsOf, storedLength, count}
 use Rattle.meaning.specs.Answers.{over}
 use Rattle.meaning.proofs.Forms.{stored-le}
 use Rattle.meaning.proofs.Bounds.{count-fits}
+use Rattle.meaning.proofs.Walks.{walk-past}
 use Rattle.octets.specs.Parts.{partOf, laidAt}
 use Rattle.octets.proofs.Overs.{over-none, laid-behind}
 use Rattle.area.specs.declared.Part.{Part}
 use Rattle.area.proofs.Steps.{Stands}
+use Rattle.area.proofs.Carrying.{sound-behind}
 use Rattle.shape.specs.declared.Item.{Item}
 use Rattle.shape.specs.Items.{itemAt, itemFor}
 use Rattle.shape.proofs.Stored.{announced-as-meant, item-as-meant}
-use Rattle.sheet.specs.Items.{headOf, itemIn, Small, itemsIn, filledBy, Passed}
+use Rattle.sheet.specs.Items.{headOf, itemIn, Small, itemsIn, filledBy, Sound, Passed}
 use Rattle.sheet.proofs.Laying.{filled, unfilled}
 
 -- The loop stands at a place and has gone over the attributes before it, whose items it has counted and, where it fills, laid.
@@ -28,6 +31,7 @@ pub record Passing (l : List ℕ) (fill : Bool) (d out : List ℕ) (place writte
   pub whole : itemsIn l ≡ gone ++ itemsOf (attributes (walkAt l place))
   pub long : length gone ≡ written
   pub inside : place ≤ length l
+  pub sound : fault (walkAt l place) ≡ none
   pub few : written ≤ 2 * place
   pub kept : length out ≡ length d
   pub held : out ≡ filledBy fill (over gone d) d
@@ -36,14 +40,15 @@ over-nothing : (fill : Bool) (d : List ℕ) → d ≡ filledBy fill (over [] d) 
 over-nothing true d = filled true (over [] d) d d refl (sym (over-none d))
 over-nothing false d = unfilled false (over [] d) d refl
 
-pub passing-none : (l : List ℕ) (fill : Bool) (d : List ℕ) → Passing l fill d d 0 0
+pub passing-none : (l : List ℕ) (fill : Bool) (d : List ℕ) → Sound l → Passing l fill d d 0 0
 unfolding itemsIn walk
-passing-none l fill d =
+passing-none l fill d s =
     record {
       gone = [];
       whole = refl;
       long = refl;
       inside = omega arith;
+      sound = s .faultless;
       few = omega arith;
       kept = refl;
       held = over-nothing fill d;
@@ -119,6 +124,7 @@ module _ (l : List ℕ) (place n : ℕ) (p : Part) (behind : ℕ) (g : Stands l 
           whole = splits;
           long = omega (arith, length-append (k .gone) (item n (valueIn l p)), k .long, item-counts i size e s);
           inside = g .inside;
+          sound = sound-behind l place n p behind g (k .sound);
           few = omega (arith, item-counts i size e s, item-bound, k .few);
           kept = len ∙ k .kept;
           held = laid-on fill refl after (h ∙ ap (λ (x : List ℕ). filledBy fill (laidAt written x out) out) same);
@@ -132,10 +138,6 @@ module _ (l : List ℕ) (fill : Bool) (d out : List ℕ) (place written : ℕ) (
       let all : itemsIn l ≡ k .gone = k .whole ∙ ap (λ (a : List Attribute). k .gone ++ itemsOf a) e ∙ append-nil (k .gone) in
       record { counts = sym (ap length all ∙ k .long); holds = k .held ∙ ap (λ (s : List ℕ). filledBy fill (over s d) d) (sym all) }
 
-  pub passing-broken : (number second : ℕ) → walkAt l place ≡ broken number second → Passed l fill d written out
+  pub passing-ended : length l ≤ place → Passed l fill d written out
   unfolding attributes
-  passing-broken number second e = done (ap attributes e)
-
-  pub passing-ended : walkAt l place ≡ end → Passed l fill d written out
-  unfolding attributes
-  passing-ended e = done (ap attributes e)
+  passing-ended h = done (ap attributes (walk-past l place h))

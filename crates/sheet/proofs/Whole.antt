@@ -2,7 +2,7 @@
 use mathlib.Core.Path.{_≡_, refl, sym, ap, subst, _∙_}
 use mathlib.Core.Bool.{true, false}
 use mathlib.Core.List.{List, _++_}
-use Prim.Native.Nat.{ℕ, _+_, _-_, _≤_, _<_}
+use Prim.Native.Nat.{ℕ, _+_, _-_, _*_, _≤_, _<_}
 use native.Mathlib.Omega.{arith}
 use lib.Dec.{T}
 use lib.ListN.{length, take, drop, length-append}
@@ -22,8 +22,9 @@ use Rattle.area.specs.declared.Refusal.{Refusal}
 use Rattle.area.specs.declared.Framing.{Framing}
 use Rattle.area.specs.declared.Framing.the-variants.{Whole, Broken}
 use Rattle.area.specs.Answers.{framingFrom, admittedOf}
+use Rattle.sheet.specs.declared.Reading.{Reading}
 use Rattle.sheet.specs.declared.Reading.the-variants.{Sheet, Refused}
-use Rattle.sheet.specs.Items.{sheetHead, itemsIn, filledBy, Admitted}
+use Rattle.sheet.specs.Items.{sheetHead, itemsIn, filledBy, Sound, Admitted}
 use Rattle.sheet.specs.Answers.{Read}
 
 pub false-not-true : {X : Type 0} → false ≡ true → X
@@ -49,6 +50,7 @@ module _ (kind flags : ℕ) (area : List ℕ) (count : ℕ) (a : Admitted kind f
     pub kind-low : kind < 256
     pub flags-low : flags < 256
     pub few : count < 65536
+    pub area-short : length area ≤ 4076
     pub short : length (itemsIn area) ≤ 8152
 
   pub bounded : Octets area → Bounded
@@ -59,8 +61,18 @@ module _ (kind flags : ℕ) (area : List ℕ) (count : ℕ) (a : Admitted kind f
         kind-low = kind-octet kind (c .kind-ok);
         flags-low = flags-octet flags (c .flags-ok);
         few = omega (arith, items-fit kind flags area r, a .counts);
+        area-short = c .short;
         short = omega (arith, sheet-bound kind flags area r, sheet-long, c .short);
       }
+
+  -- its framing is right
+  pub admitted-sound : Sound area
+  admitted-sound = record { faultless = clear kind flags area (a .accepted) .sound }
+
+  -- a buffer of 9 + 2 x area length has room for any sheet
+  pub roomy : Octets area → (room : ℕ) → 9 + 2 * length area ≤ room → 9 + length (itemsIn area) ≤ room
+  roomy o room h =
+      omega (arith, sheet-bound kind flags area (record { octets = o; accepted = a .accepted }), sheet-long)
 
   -- refusal 9: the buffer is as it was, since the first pass only counts
   pub too-long : (d held : List ℕ) (needed : ℕ) → needed ≡ 9 + length (itemsIn area) → length held < needed → held ≡ filledBy false (over (itemsIn area) d) d → Read kind flags area d (Refused (record { number = 9; second = needed })) held
@@ -71,16 +83,15 @@ module _ (kind flags : ℕ) (area : List ℕ) (count : ℕ) (a : Admitted kind f
       record { says = rw (n, a .accepted, t); holds = rw (a .accepted, t) k }
 
   -- The sheet: its head over the buffer's start, its items right behind it.
-  pub sheet-laid : (d counted headed part : List ℕ) (needed : ℕ) → needed ≡ 9 + length (itemsIn area) → needed ≤ length counted → counted ≡ filledBy false (over (itemsIn area) d) d → headed ≡ laidAt 0 (sheetHead kind flags count) counted → part ≡ filledBy true (over (itemsIn area) (take (length headed - 9) (drop 9 headed))) (take (length headed - 9) (drop 9 headed)) → Read kind flags area d (Sheet needed) (putMid 9 (length headed - 9) headed part)
+  pub sheet-laid : (d headed part : List ℕ) (written : ℕ) → 9 + length (itemsIn area) ≤ length d → headed ≡ laidAt 0 (sheetHead kind flags count) d → written ≡ length (itemsIn area) → part ≡ filledBy true (over (itemsIn area) (take (length headed - 9) (drop 9 headed))) (take (length headed - 9) (drop 9 headed)) → Read kind flags area d (Sheet (9 + written)) (putMid 9 (length headed - 9) headed part)
   unfolding readAnswer areaOrder after filledBy
-  sheet-laid d counted headed part needed e h k hd p =
+  sheet-laid d headed part written room hd w p =
       let head : List ℕ = sheetHead kind flags count in
       let nine : length head ≡ 9 = head-long kind flags count in
-      let n : needed ≡ length (sheetOf kind flags area) = e ∙ sym sheet-long in
-      let room : needed ≤ length d = omega (arith, ap length k) in
-      let t = le-ltb (length d) (length (sheetOf kind flags area)) (omega arith) in
-      let long : length headed ≡ length d = ap length hd ∙ laid-length 0 head counted ∙ ap length k in
-      let first : headed ≡ over head d = hd ∙ ap (laidAt 0 head) k ∙ laid-first head d (omega arith) in
+      let n : 9 + written ≡ length (sheetOf kind flags area) = ap (λ (k : ℕ). 9 + k) w ∙ sym sheet-long in
+      let t = le-ltb (length d) (length (sheetOf kind flags area)) (omega (arith, sheet-long)) in
+      let long : length headed ≡ length d = ap length hd ∙ laid-length 0 head d in
+      let first : headed ≡ over head d = hd ∙ laid-first head d (omega arith) in
       let put : putMid 9 (length headed - 9) headed part ≡ laidAt 9 (itemsIn area) headed =
       laid-part 9 (itemsIn area) headed (length (itemsIn area)) true refl (sym (le-leb (9 + length (itemsIn area)) (length headed) (omega arith))) part refl p .holds in
       let behind : laidAt 9 (itemsIn area) headed ≡ over (head ++ itemsIn area) d = laid-behind head (itemsIn area) d headed 9 nine first (omega arith) in
@@ -90,6 +101,11 @@ module _ (kind flags : ℕ) (area : List ℕ) (count : ℕ) (a : Admitted kind f
             rw (a .accepted, t)
             (put ∙ behind ∙ ap (λ (s : List ℕ). over s d) (sym (sheet-parts kind flags count area (a .counts))));
       }
+
+  -- the buffer that the counting pass left is the one it was lent
+  pub read-uncounted : (d counted held : List ℕ) (r : Reading) → counted ≡ filledBy false (over (itemsIn area) d) d → Read kind flags area counted r held → Read kind flags area d r held
+  unfolding filledBy
+  read-uncounted d counted held r k h = rw k at h
 
 -- ---- What the framing answered
 

@@ -6,7 +6,7 @@ use mathlib.Core.List.{List, [], _∷_, _++_}
 use lib.ListN.{length}
 use Rattle.meaning.specs.Octets.{octetsOf}
 use Rattle.meaning.specs.Framing.{walk, attributes}
-use Rattle.meaning.specs.Refusals.{none, areaRefusal}
+use Rattle.meaning.specs.Refusals.{none, fault, areaRefusal}
 use Rattle.meaning.specs.Answers.{over}
 use Rattle.meaning.specs.Sheet.{typeOf, subOf, mark, itemsOf}
 use Rattle.shape.specs.declared.Item.{Item}
@@ -36,6 +36,10 @@ itemsIn area = itemsOf (attributes (walk area))
 -- a buffer that a pass fills, or leaves where it only counts
 unfoldable pub filledBy : (fill : Bool) (s d : List ℕ) → List ℕ
 filledBy fill s d = cond fill s d
+
+-- an area that is well framed
+pub record Sound (area : List ℕ) : Type 0 where
+  pub faultless : fault (walk area) ≡ none
 
 -- what a pass over an area's items counts, and what the buffer holds then
 pub record Passed (area : List ℕ) (fill : Bool) (buffer : List ℕ) (counted : ℕ) (held : List ℕ) : Type 0 where

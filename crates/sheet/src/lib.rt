@@ -1,8 +1,7 @@
-// Sheets: an attribute area is read into a sheet. Two passes over the area: the first finds every refusal and the octets needed,
-// the second writes.
+// Sheets: an attribute area is read into a sheet. The framing is tested first; then one pass over the area counts the octets needed,
+// unless the buffer has room for any sheet of an area so long, and another writes.
 use area::Framing;
 use area::Refusal;
-use area::Step;
 use shape::Item;
 use shape::Value;
 ghost use mathlib.Core.Path.{_≡_};
@@ -15,7 +14,7 @@ ghost use Rattle.meaning.specs.Octets.{octetsOf, pack, packedLength, digitValue
 ghost use Rattle.octets.specs.Parts.{laidAt};
 ghost use Rattle.octets.specs.DigitStrings.{halves, packedOf};
 ghost use Rattle.shape.specs.Items.{storedPart, storedIn};
-ghost use Rattle.sheet.specs.Items.{headOf, itemIn, Small, sheetHead, itemsIn, filledBy, Passed, Admitted};
+ghost use Rattle.sheet.specs.Items.{headOf, itemIn, Small, sheetHead, itemsIn, filledBy, Sound, Passed, Admitted};
 ghost use Rattle.sheet.specs.Answers.{Read};
 
 // What reading answers: the octets of the sheet that stands at the buffer's start, or a refusal.
@@ -24,19 +23,12 @@ pub enum Reading {
     Refused(Refusal),
 }
 
-// The octet at a place, or 0 where there is none.
-fn octet_or_zero(s: &[u8], at: usize) -> u8
-    ensures { λ r. ⌜ r ≡ getD (now (s .entry)) at 0 ⌝ }
-{
-    if at < s.len() { s[at] } else { 0 }
-}
-
 // The release octet of a QoS profile: its two digits as a number.
 fn release_of(text: &[u8]) -> u8
     ensures { λ r. ⌜ r ≡ (digitValue (getD (now (text .entry)) 0 0) * 10 + digitValue (getD (now (text .entry)) 1 0)) % 256 ⌝ }
 {
-    let tens = octets::wide(octets::digit_value(octet_or_zero(text, 0)));
-    let ones = octets::wide(octets::digit_value(octet_or_zero(text, 1)));
+    let tens = octets::wide(octets::digit_value(octets::octet_at(text, 0)));
+    let ones = octets::wide(octets::digit_value(octets::octet_at(text, 1)));
     ((tens * 10 + ones) % 256) as u8
 }
 
@@ -144,34 +136,23 @@ fn put_item(buf: &mut [u8], at: usize, area: &[u8], item: Item, fill: bool)
     put_stored(buf, at + 4, area, item);
 }
 
-// Passes over the attributes of an area: counts the octets of their items and, where `fill` says so, lays these over the buffer's
-// start, one behind the other.
+// Passes over the attributes of an area that is well framed: counts the octets of their items and, where `fill` says so, lays these
+// over the buffer's start, one behind the other.
 fn pass(area: &[u8], buf: &mut [u8], fill: bool) -> usize
-    requires { ⌜ (fill ≡ true → length (itemsIn (now area)) ≤ length (now buf)) ⌝ }
+    requires { ⌜ Sound (now area) × (fill ≡ true → length (itemsIn (now area)) ≤ length (now buf)) ⌝ }
     ensures { λ r. ⌜ Passed (now (area .entry)) fill (now (buf .entry)) r (now (buf .exit)) ⌝ }
 {
     let mut place: usize = 0;
     let mut written: usize = 0;
-    loop {
-        match area::step_at(area, place) {
-            Step::Attribute {
-                number,
-                value,
-                next,
-            } => {
-                let item = shape::item_of(area, number, value);
-                put_item(buf, written, area, item, fill);
-                written += 4 + shape::stored_len(item);
-                place = next;
-            }
-            Step::Refused(_) => {
-                return written;
-            }
-            Step::End => {
-                return written;
-            }
-        }
+    while place < area.len() {
+        let carried = area::carried_at(area, place);
+        let value = carried.value;
+        let item = shape::item_of(area, carried.number, value);
+        put_item(buf, written, area, item, fill);
+        written += 4 + shape::stored_len(item);
+        place = carried.next;
     }
+    written
 }
 
 // "Nine octets: mark GIR (47 49 52), version 1 as 16 bits, kind, flags, number of items as 16 bits".
@@ -193,11 +174,26 @@ fn sheet_head(kind: u32, flags: u32, count: usize) -> [u8; 9]
     ]
 }
 
+// Lays the sheet of an area that is admitted with its kind and flags over the buffer's start, where it fits.
+fn fill(area: &[u8], kind: u32, flags: u32, count: usize, sheet: &mut [u8]) -> Reading
+    requires { ⌜ Admitted kind flags (now area) count × (9 + length (itemsIn (now area)) ≤ length (now sheet)) ⌝ }
+    ensures { λ r. ⌜ Read kind flags (now (area .entry)) (now (sheet .entry)) r (now (sheet .exit)) ⌝ }
+{
+    let head = sheet_head(kind, flags, count);
+    octets::copy_at(sheet, 0, &head);
+    let written = pass(area, &mut sheet[9..], true);
+    Reading::Sheet(9 + written)
+}
+
 // The sheet of an area that is admitted with its kind and flags, at the buffer's start, or refusal 9.
 fn lay(area: &[u8], kind: u32, flags: u32, count: usize, sheet: &mut [u8]) -> Reading
     requires { ⌜ Admitted kind flags (now area) count ⌝ }
     ensures { λ r. ⌜ Read kind flags (now (area .entry)) (now (sheet .entry)) r (now (sheet .exit)) ⌝ }
 {
+    // "A sheet is never longer than 9 + 2 x area length": a buffer of that length needs no pass that only counts.
+    if 9 + 2 * area.len() <= sheet.len() {
+        return fill(area, kind, flags, count, sheet);
+    }
     let needed = 9 + pass(area, sheet, false);
     if sheet.len() < needed {
         return Reading::Refused(Refusal {
@@ -205,10 +201,7 @@ fn lay(area: &[u8], kind: u32, flags: u32, count: usize, sheet: &mut [u8]) -> Re
             second: needed,
         });
     }
-    let head = sheet_head(kind, flags, count);
-    octets::copy_at(sheet, 0, &head);
-    pass(area, &mut sheet[9..], true);
-    Reading::Sheet(needed)
+    fill(area, kind, flags, count, sheet)
 }
 
 // "Read: attribute area, kind and flags give a sheet", at the buffer's start; a refusal leaves the buffer as it was.

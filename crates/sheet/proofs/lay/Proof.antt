@@ -4,63 +4,68 @@ use borrow.Author.Needs.{needs}
 use mathlib.Core.Path.{ap}
 use native.Mathlib.Omega.{arith}
 use Rattle.area.proofs.Steps.{slice-octets}
-use Rattle.sheet.proofs.Whole.{false-not-true, bounded, too-long, sheet-laid}
+use Rattle.sheet.proofs.Whole.{false-not-true, bounded, admitted-sound, roomy, too-long, read-uncounted}
 use Rattle.sheet.proofs.lay.Statement.{statement}
 use Rattle.sheet.proofs.lay.Tie as tie
 
-pass-requires : tie.Need-pass-requires
-pass-requires c κs = λ e. absurd (false-not-true e)
+mul-if1 : tie.Need-mul-if1
+mul-if1 c = search needs
 
-add-needed : tie.Need-add-needed
-add-needed c = let s = bounded _ _ _ _ (c .before .before .before .before .before .before .pre) (slice-octets (c .before .before .before .before .before .before .args .area .now) (c .before .before .before .before .before .shared-slice-known .given)) in omega (arith, c .before .before .pass .ensures .counts, s .short)
+add-if1 : tie.Need-add-if1
+add-if1 c =
+    let s = bounded _ _ _ _ (c .before .before .pre) (slice-octets (c .before .before .args .area .now) (c .before .shared-slice-known .given)) in
+    omega (arith, s .area-short)
+
+fill-requires : tie.Need-fill-requires
+fill-requires c κs =
+    let p = c .before .before .before .before .pre in
+    (p, roomy _ _ _ _ p (slice-octets (c .before .before .before .before .args .area .now) (c .before .before .before .shared-slice-known .given)) _ (c .before .if1 .taken))
 
 same-length : tie.Need-same-length
 same-length c = search needs
 
 returns : tie.Need-returns
-returns c = too-long _ _ _ _ (c .before .before .before .before .before .before .before .pre) _ _ _ (ap (λ (n : ℕ). 9 + n) (c .before .before .before .pass .ensures .counts)) (c .if1 .taken) (c .before .before .before .pass .ensures .holds)
+returns c = search needs
 
-sheet-head-requires : tie.Need-sheet-head-requires
-sheet-head-requires c κs = let s = bounded _ _ _ _ (c .before .before .before .before .before .before .before .pre) (slice-octets (c .before .before .before .before .before .before .before .args .area .now) (c .before .before .before .before .before .before .shared-slice-known .given)) in (s .kind-low, s .flags-low, s .few)
+pass-requires : tie.Need-pass-requires
+pass-requires c κs = (admitted-sound _ _ _ _ (c .before .before .before .before .pre), λ e. false-not-true e)
 
-slice-aggregate-copy-at : tie.Need-slice-aggregate-copy-at
-slice-aggregate-copy-at c = search needs
-
-copy-at-requires : tie.Need-copy-at-requires
-copy-at-requires c κs = search needs
-
-sub-pass : tie.Need-sub-pass
-sub-pass c = search needs
-
-part-pass-start : tie.Need-part-pass-start
-part-pass-start c = search needs
-
-part-pass-end : tie.Need-part-pass-end
-part-pass-end c = search needs
-
-pass-requires-2 : tie.Need-pass-requires-2
-pass-requires-2 c κs = search needs
+add-needed : tie.Need-add-needed
+add-needed c =
+    let s = bounded _ _ _ _ (c .before .before .before .before .before .before .before .pre) (slice-octets (c .before .before .before .before .before .before .before .args .area .now) (c .before .before .before .before .before .before .shared-slice-known .given)) in
+    omega (arith, c .before .before .pass .ensures .counts, s .short)
 
 same-length-2 : tie.Need-same-length-2
 same-length-2 c = search needs
 
 returns-2 : tie.Need-returns-2
-returns-2 c = sheet-laid _ _ _ _ (c .before .before .before .before .before .before .before .before .before .before .before .before .before .before .before .before .before .pre) _ _ _ _ _ (ap (λ (n : ℕ). 9 + n) (c .before .before .before .before .before .before .before .before .before .before .before .before .before .pass .ensures .counts)) (c .before .before .before .before .before .before .before .before .before .before .if1 .left) (c .before .before .before .before .before .before .before .before .before .before .before .before .before .pass .ensures .holds) (rw (c .before .before .before .before .before .before .before .before .before .sheet-head .ensures) at (c .before .before .before .before .before .before .copy-at .ensures .holds)) (c .before .before .pass2 .ensures .holds)
+returns-2 c =
+    too-long _ _ _ _ (c .before .before .before .before .before .before .before .before .pre) _ _ _ (ap (λ (n : ℕ). 9 + n) (c .before .before .before .pass .ensures .counts)) (c .if2 .taken)
+    (c .before .before .before .pass .ensures .holds)
+
+fill-requires-2 : tie.Need-fill-requires-2
+fill-requires-2 c κs = search needs
+
+same-length-3 : tie.Need-same-length-3
+same-length-3 c = search needs
+
+returns-3 : tie.Need-returns-3
+returns-3 c =
+    read-uncounted _ _ _ _ (c .before .before .before .before .before .before .before .before .before .before .before .before .pre) _ _ _ _ (c .before .before .before .before .before .before .before .pass .ensures .holds) (c .before .before .fill2 .ensures)
 
 pub lay-spec : {M : Type 1} → statement M
 lay-spec =
     tie.close
     (tie.spec
-    pass-requires
-    add-needed
+    mul-if1
+    add-if1
+    fill-requires
     same-length
     returns
-    sheet-head-requires
-    slice-aggregate-copy-at
-    copy-at-requires
-    sub-pass
-    part-pass-start
-    part-pass-end
-    pass-requires-2
+    pass-requires
+    add-needed
     same-length-2
-    returns-2)
+    returns-2
+    fill-requires-2
+    same-length-3
+    returns-3)

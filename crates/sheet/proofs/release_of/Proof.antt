@@ -3,8 +3,8 @@ use borrow.Author.Needs.{needs}
 use Rattle.sheet.proofs.release_of.Statement.{statement}
 use Rattle.sheet.proofs.release_of.Tie as tie
 
-octet-or-zero-requires : tie.Need-octet-or-zero-requires
-octet-or-zero-requires c κs = search needs
+octet-at-requires : tie.Need-octet-at-requires
+octet-at-requires c κs = search needs
 
 digit-value-requires : tie.Need-digit-value-requires
 digit-value-requires c κs = search needs
@@ -12,8 +12,8 @@ digit-value-requires c κs = search needs
 wide-requires : tie.Need-wide-requires
 wide-requires c κs = search needs
 
-octet-or-zero-requires-2 : tie.Need-octet-or-zero-requires-2
-octet-or-zero-requires-2 c κs = search needs
+octet-at-requires-2 : tie.Need-octet-at-requires-2
+octet-at-requires-2 c κs = search needs
 
 digit-value-requires-2 : tie.Need-digit-value-requires-2
 digit-value-requires-2 c κs = search needs
@@ -37,10 +37,10 @@ pub release-of-spec : {M : Type 1} → statement M
 release-of-spec =
     tie.close
     (tie.spec
-    octet-or-zero-requires
+    octet-at-requires
     digit-value-requires
     wide-requires
-    octet-or-zero-requires-2
+    octet-at-requires-2
     digit-value-requires-2
     wide-requires-2
     mul-result

@@ -1,10 +1,10 @@
--- `sheet::octet_or_zero` meets its contract. Assumes nothing.
+-- `octets::octet_at` meets its contract. Assumes nothing.
 use borrow.Author.Needs.{needs}
 use denote.Ref.{now}
 use lib.ListN.{List·getD-eq-default}
 use mathlib.Core.Path.{sym}
-use Rattle.sheet.proofs.octet_or_zero.Statement.{statement}
-use Rattle.sheet.proofs.octet_or_zero.Tie as tie
+use Rattle.octets.proofs.octet_at.Statement.{statement}
+use Rattle.octets.proofs.octet_at.Tie as tie
 
 shared-slice-read-result : tie.Need-shared-slice-read-result
 shared-slice-read-result c = search needs
@@ -15,5 +15,5 @@ returns c = search needs
 returns-2 : tie.Need-returns-2
 returns-2 c = sym (List·getD-eq-default (now (c .before .args .s)) 0 (c .if1 .left))
 
-pub octet-or-zero-spec : {M : Type 1} → statement M
-octet-or-zero-spec = tie.close (tie.spec shared-slice-read-result returns returns-2)
+pub octet-at-spec : {M : Type 1} → statement M
+octet-at-spec = tie.close (tie.spec shared-slice-read-result returns returns-2)
