@@ -17,13 +17,13 @@ use Rattle.breach.proofs.Rows.{known-kind}
 
 -- ---- Rule 3
 
-pub end-at-place : (n place : ℕ) (once : Bool) → once ≡ onceOnly n → once ≡ true → place ≡ searchEnd n place
+pub end-at-place : (repeated : Bool) (n place : ℕ) (once : Bool) → once ≡ onceOnly n → repeated && once ≡ true → place ≡ searchEnd repeated n place
 unfolding searchEnd
-end-at-place n place once o e = rw (sym o ∙ e)
+end-at-place repeated n place once o e = rw (ap (λ (b : Bool). repeated && b) (sym o) ∙ e)
 
-pub end-at-once : (n place : ℕ) (once : Bool) → once ≡ onceOnly n → once ≡ false → 0 ≡ searchEnd n place
+pub end-at-once : (repeated : Bool) (n place : ℕ) (once : Bool) → once ≡ onceOnly n → repeated && once ≡ false → 0 ≡ searchEnd repeated n place
 unfolding searchEnd
-end-at-once n place once o e = rw (sym o ∙ e)
+end-at-once repeated n place once o e = rw (ap (λ (b : Bool). repeated && b) (sym o) ∙ e)
 
 -- ---- Rule 4
 

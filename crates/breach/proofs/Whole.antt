@@ -10,7 +10,7 @@ use borrow.Author.Tests.{lt-ltb, le-ltb}
 use Rattle.meaning.specs.Jobs.{isKind}
 use Rattle.meaning.specs.Framing.{walk, attributes}
 use Rattle.meaning.specs.Refusals as book
-use Rattle.meaning.specs.Refusals.{none, refusal, areaRefusal, areaOrder}
+use Rattle.meaning.specs.Refusals.{none, refusal, fault, areaRefusal, areaOrder}
 use Rattle.meaning.specs.Breaches.{chosen, along, atEnd, numbersOf, breaches}
 use Rattle.meaning.specs.Answers.{after, listOf, checkAnswer}
 use Rattle.meaning.proofs.Tests.{parts, passes}
@@ -58,10 +58,14 @@ module _ (kind flags : ℕ) (area : List ℕ) (a : Admitted kind flags area) whe
       let t = parts (leb 1 kind) (leb kind 6) (passes (isKind kind) (clear kind flags area (a .accepted) .kind-ok)) in
       record { least = leb→le 1 kind (t .0); most = leb→le kind 6 (t .1) }
 
+  pub admitted-sound : fault (walk area) ≡ none
+  admitted-sound = clear kind flags area (a .accepted) .sound
+
   pub admitted-ready : (table codes : List ℕ) → Presence table → codes ≡ partOf table ((kind - 1) * 256) 256 → Ready kind area codes
   admitted-ready table codes p e =
       record {
         short = clear kind flags area (a .accepted) .short;
+        sound = admitted-sound;
         known = admitted-known;
         row = row-of kind table codes admitted-known p e;
       }

@@ -2,15 +2,15 @@
 -- of the kind, the numbers seen, and whether an earlier attribute carries the number. Assumes nothing.
 use Prim.Native.Nat.{ℕ, _+_, _*_, _≤_, _<_}
 use mathlib.Core.Path.{_≡_}
-use mathlib.Core.Bool.{Bool, false, cond, not, _&&_}
-use mathlib.Core.List.{List, [], _∷_}
+use mathlib.Core.Bool.{Bool, false, cond, not, _&&_, _||_}
+use mathlib.Core.List.{List, [], _∷_, _++_}
 use lib.Dec.{eqb}
 use lib.ListN.{length, getD}
 use lib.Seq.{sets}
 use Rattle.meaning.specs.Octets.{isIn}
 use Rattle.meaning.specs.Framing.{gpp, walk, attributes}
 use Rattle.meaning.specs.Shapes.{shapeOf, meets, allowed}
-use Rattle.meaning.specs.Refusals.{none, areaRefusal}
+use Rattle.meaning.specs.Refusals.{none, fault, areaRefusal}
 use Rattle.meaning.specs.Presence.{codeDemands, codeWants}
 use Rattle.meaning.specs.Breaches.{entry, onceOnly, barred, asksPdpType, Candidate, put, chosen, along}
 use Rattle.breach.specs.Table.{Known, Row}
@@ -42,9 +42,14 @@ pub record PutOf (c : Candidate) (d : List ℕ) (at said : ℕ) (held : List ℕ
 
 -- ---- At an attribute
 
--- rule 3: where the search for an earlier attribute ends
-unfoldable pub searchEnd : (number place : ℕ) → ℕ
-searchEnd n place = cond (onceOnly n) place 0
+-- rule 3: where the search for an earlier attribute ends; repeated says that some number stands twice
+unfoldable pub searchEnd : (repeated : Bool) (number place : ℕ) → ℕ
+searchEnd repeated n place = cond (repeated && onceOnly n) place 0
+
+-- behind the numbers seen, one stands again that was seen or stands before it
+unfoldable pub repeats : (seen rest : List ℕ) → Bool
+repeats seen [] = false
+repeats seen (n ∷ rest) = isIn n seen || repeats (seen ++ n ∷ []) rest
 
 -- rules 1 to 4 at an attribute; again says that rule 3 is broken
 unfoldable pub brokenBy : (kind flags : ℕ) (again : Bool) (place number : ℕ) (value : List ℕ) → List Candidate
@@ -61,6 +66,11 @@ brokenBy kind flags again place n v =
 pub record Seen (seen : List Bool) (numbers : List ℕ) : Type 0 where
   pub long : length seen ≡ 512
   pub says : (n : ℕ) → n < 512 → getD seen n false ≡ isIn n numbers
+
+-- the same, with whether a number stands twice
+pub record Noted (seen : List Bool) (repeated : Bool) (numbers : List ℕ) : Type 0 where
+  pub sees : Seen seen numbers
+  pub says : repeated ≡ repeats [] numbers
 
 -- rule 6 for one number, by the row of the kind
 abbrev pub lacksBy : (codes : List ℕ) (seen : List Bool) (place number : ℕ) → Candidate
@@ -96,9 +106,10 @@ wantingIn kind flags codes seen place =
 
 -- ---- The whole
 
--- an area of at most 4,076 octets that comes with a known kind and its row
+-- a well framed area of at most 4,076 octets that comes with a known kind and its row
 pub record Ready (kind : ℕ) (area codes : List ℕ) : Type 0 where
   pub short : length area ≤ 4076
+  pub sound : fault (walk area) ≡ none
   pub known : Known kind
   pub row : Row kind codes
 

@@ -2,13 +2,14 @@
 // them into the list.
 use area::Framing;
 use area::Refusal;
-use area::Step;
 ghost use mathlib.Core.Path.{_≡_};
 ghost use mathlib.Core.Bool.{true, not, _&&_, _||_};
 ghost use Prim.Native.Nat.{_≤_, _<_};
 ghost use lib.Dec.{eqb};
 ghost use lib.ListN.{length};
+ghost use mathlib.Core.List.{[]};
 ghost use Rattle.meaning.specs.Framing.{walk, attributes};
+ghost use Rattle.meaning.specs.Refusals.{none, fault};
 ghost use Rattle.meaning.specs.Shapes.{shapeOf, meets, statusOf};
 ghost use Rattle.meaning.specs.Shapes as shapes;
 ghost use Rattle.meaning.specs.Presence.{codeBars, codeDemands, codeWants};
@@ -16,7 +17,7 @@ ghost use Rattle.meaning.specs.Breaches.{entry, onceOnly, asksPdpType, chosen, 
 ghost use Rattle.meaning.specs.Breaches as meant;
 ghost use Rattle.meaning.specs.Answers.{listOf};
 ghost use Rattle.breach.specs.Table.{Known, Presence, Row};
-ghost use Rattle.breach.specs.Lists.{Laid, Put, PutOf, Seen, searchEnd, brokenBy, lacksBy, wantsBy, lackingIn, wantingIn, Ready, Passed, Admitted};
+ghost use Rattle.breach.specs.Lists.{Laid, Put, PutOf, searchEnd, repeats, Noted, brokenBy, lacksBy, wantsBy, lackingIn, wantingIn, Ready, Passed, Admitted};
 ghost use Rattle.breach.specs.Answers.{Checked};
 
 mod tables;
@@ -25,6 +26,12 @@ mod tables;
 pub enum Checking {
     List(usize),
     Refused(Refusal),
+}
+
+// The numbers that an area carries: which were seen, and whether one stands twice.
+struct Numbers {
+    seen: [bool; 512],
+    repeated: bool,
 }
 
 // "a table of 1,536 entries, one for each kind and number": read once a check, since each reading copies it.
@@ -76,11 +83,16 @@ fn once_only(number: u16) -> bool
                     | (((number == 60) | (number == 61)) | is_listed_3gpp(number)))))
 }
 
-// Where the search for an earlier attribute ends: at the attribute's place, or at once where the number may stand again.
-fn search_end(number: u16, place: usize) -> usize
-    ensures { λ r. ⌜ r ≡ searchEnd number place ⌝ }
+// Where the search for an earlier attribute ends: at the attribute's place, or at once where the number may stand again or where no
+// number of the area stands twice.
+fn search_end(number: u16, place: usize, repeated: bool) -> usize
+    ensures { λ r. ⌜ r ≡ searchEnd repeated number place ⌝ }
 {
-    if once_only(number) { place } else { 0 }
+    if repeated & once_only(number) {
+        place
+    } else {
+        0
+    }
 }
 
 // Rule 4: "not permitted here".
@@ -214,64 +226,58 @@ fn at_attribute(
 }
 
 // Lays what the attributes of an area break, from the left. Rule 3, "an earlier attribute carries the same number": a walk from the
-// area's start, left at the first equal number.
-fn along(area: &[u8], codes: &[u8], kind: u32, flags: u32, list: &mut [u32]) -> usize
-    requires { ⌜ Ready kind (now area) (now codes) ⌝ }
+// area's start, left at the first equal number; `repeated` says that some number of the area stands twice.
+fn along(
+    area: &[u8],
+    codes: &[u8],
+    repeated: bool,
+    kind: u32,
+    flags: u32,
+    list: &mut [u32],
+) -> usize
+    requires { ⌜ Ready kind (now area) (now codes) × (repeated ≡ repeats [] (numbersOf (attributes (walk (now area))))) ⌝ }
     ensures { λ r. ⌜ Passed kind flags (now (area .entry)) (now (list .entry)) r (now (list .exit)) ⌝ }
 {
     let mut place: usize = 0;
     let mut written: usize = 0;
-    loop {
-        let Step::Attribute {
-            number,
-            value,
-            next,
-        } = area::step_at(area, place)
-        else {
-            return written;
-        };
-        let end = search_end(number, place);
+    while place < area.len() {
+        let carried = area::carried_at(area, place);
+        let number = carried.number;
+        let value = carried.value;
+        let end = search_end(number, place, repeated);
         let mut again = false;
         let mut before: usize = 0;
         'search: while before < end {
-            let Step::Attribute {
-                number: earlier,
-                value: _,
-                next: behind,
-            } = area::step_at(area, before)
-            else {
-                break 'search;
-            };
-            if earlier == number {
+            let earlier = area::carried_at(area, before);
+            if earlier.number == number {
                 again = true;
                 break 'search;
             }
-            before = behind;
+            before = earlier.next;
         }
         let v = octets::part(area, value.start, value.len);
         written = at_attribute(list, written, codes, kind, flags, place, number, v, again);
-        place = next;
+        place = carried.next;
     }
+    written
 }
 
-// Which numbers the attributes of an area carry.
-fn seen_in(area: &[u8]) -> [bool; 512]
-    ensures { λ r. ⌜ Seen r (numbersOf (attributes (walk (now (area .entry))))) ⌝ }
+// Which numbers the attributes of an area carry, and whether one of them stands twice.
+fn numbers_in(area: &[u8]) -> Numbers
+    requires { ⌜ fault (walk (now area)) ≡ none ⌝ }
+    ensures { λ r. ⌜ Noted (r .seen) (r .repeated) (numbersOf (attributes (walk (now (area .entry))))) ⌝ }
 {
     let mut seen = [false; 512];
+    let mut repeated = false;
     let mut place: usize = 0;
-    loop {
-        let Step::Attribute {
-            number,
-            value: _,
-            next,
-        } = area::step_at(area, place)
-        else {
-            return seen;
-        };
-        seen[number as usize] = true;
-        place = next;
+    while place < area.len() {
+        let carried = area::carried_at(area, place);
+        let n = carried.number as usize;
+        repeated = repeated | seen[n];
+        seen[n] = true;
+        place = carried.next;
     }
+    Numbers { seen, repeated }
 }
 
 // Rule 7: "Kinds 1, 2, 3, 6", where 3GPP 3 goes with plain attribute 7.
@@ -369,14 +375,15 @@ fn pass(
     area: &[u8],
     codes: &[u8],
     seen: &[bool; 512],
+    repeated: bool,
     kind: u32,
     flags: u32,
     list: &mut [u32],
 ) -> usize
-    requires { ⌜ Ready kind (now area) (now codes) × Seen (now seen) (numbersOf (attributes (walk (now area)))) ⌝ }
+    requires { ⌜ Ready kind (now area) (now codes) × Noted (now seen) repeated (numbersOf (attributes (walk (now area)))) ⌝ }
     ensures { λ r. ⌜ Laid (listOf kind flags (now (area .entry))) (now (list .entry)) 0 r (now (list .exit)) ⌝ }
 {
-    let at = along(area, codes, kind, flags, list);
+    let at = along(area, codes, repeated, kind, flags, list);
     let next = at_end_lacking(list, at, codes, seen, kind, area.len());
     at_end_wanting(list, next, codes, seen, kind, flags, area.len())
 }
@@ -388,8 +395,10 @@ fn lay(area: &[u8], kind: u32, flags: u32, list: &mut [u32]) -> Checking
 {
     let table = presence();
     let codes = octets::part(&table, (kind as usize - 1) * 256, 256);
-    let seen = seen_in(area);
-    let needed = pass(area, codes, &seen, kind, flags, &mut list[..0]);
+    let numbers = numbers_in(area);
+    let seen = numbers.seen;
+    let repeated = numbers.repeated;
+    let needed = pass(area, codes, &seen, repeated, kind, flags, &mut list[..0]);
     if list.len() < needed {
         return Checking::Refused(Refusal {
             number: 10,
@@ -400,7 +409,7 @@ fn lay(area: &[u8], kind: u32, flags: u32, list: &mut [u32]) -> Checking
     if needed == 0 {
         return Checking::List(needed);
     }
-    pass(area, codes, &seen, kind, flags, list);
+    pass(area, codes, &seen, repeated, kind, flags, list);
     Checking::List(needed)
 }
 

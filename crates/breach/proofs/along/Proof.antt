@@ -6,93 +6,84 @@ use mathlib.Core.Bool.{false, _&&_}
 use mathlib.Core.Logic.{⊎-elim}
 use mathlib.Core.Path.{_≡_, refl, _∙_}
 use native.Mathlib.Omega.{arith}
-use Rattle.area.proofs.Steps.{Stands, step-attribute, slice-octets}
-use Rattle.meaning.specs.Octets.{isIn}
+use Rattle.area.proofs.Steps.{Stands, slice-octets}
+use Rattle.area.proofs.Carrying.{carried-stands}
+use Rattle.meaning.specs.Octets.{Octets, isIn}
 use Rattle.meaning.specs.Breaches.{onceOnly}
 use Rattle.breach.proofs.Laying.{laid-kept}
-use Rattle.breach.proofs.Walking.{Looking, looking-start, looking-none, looking-stuck, looking-found, looking-more}
-use Rattle.breach.proofs.Passes.{Passing, passing-none, passing-more, passing-done}
+use Rattle.breach.proofs.Walking.{Looking, looking-start, looking-none, looking-on, looking-found, looking-more}
+use Rattle.breach.proofs.Passes.{Passing, passing-none, passing-fresh, passing-more, passing-done}
 use Rattle.breach.proofs.along.Statement.{statement}
 use Rattle.breach.proofs.along.Tie as tie
 
 abbrev Inv-search : tie.InvT-search
-Inv-search area codes kind flags list place written number value next end again₀ before₀ again before =
+Inv-search area codes repeated kind flags list place written carried number value end again₀ before₀ again before =
     Looking area number place end before × (again ≡ false)
 
 abbrev μ-search : tie.MeasureT-search
-μ-search area codes kind flags list place written number value next end again₀ before₀ again before = length area - before
+μ-search area codes repeated kind flags list place written carried number value end again₀ before₀ again before = end - before
 
 abbrev Inv-loop : tie.InvT-loop
-Inv-loop area codes kind flags list₀ place₀ written₀ list place written = Passing kind flags area list₀ list place written
+Inv-loop area codes repeated kind flags list₀ place₀ written₀ list place written =
+    Passing kind flags repeated area list₀ list place written
 
 abbrev μ-loop : tie.MeasureT-loop
-μ-loop area codes kind flags list₀ place₀ written₀ list place written = length area - place
+μ-loop area codes repeated kind flags list₀ place₀ written₀ list place written = length area - place
+
+-- the area holds octets
+octets : (k : tie.After-carried-at Inv-search μ-search Inv-loop μ-loop) → Octets (k .before .before .before .before .before .before .args .area .now)
+octets k = slice-octets (k .before .before .before .before .before .before .args .area .now) (k .before .before .before .before .before .shared-slice-known .given)
 
 -- what stands at the place
-stands : (k : tie.After-known-told Inv-search μ-search Inv-loop μ-loop) →
-    (let f = k .before .number .given .0 in
-    Stands (k .before .before .before .before .before .before .before .before .args .area .now) (k .before .before .before .before .loop .place) (f .0) (f .1 .0) (f .1 .1 .0))
-stands k = step-attribute _ _ _ (k .before .before .before .step-at .ensures) _ _ _ (k .before .number .given .1)
-
--- its number is carried
-low : (k : tie.After-known-told Inv-search μ-search Inv-loop μ-loop) → k .before .number .given .0 .0 < 512
-low k =
-    stands k .carried (slice-octets (k .before .before .before .before .before .before .before .before .args .area .now) (k .before .before .before .before .before .before .before .shared-slice-known .given)) .low
+stands : (k : tie.After-carried-at Inv-search μ-search Inv-loop μ-loop) →
+    (let r = k .carried-at .result in
+    Stands (k .before .before .before .before .before .before .args .area .now) (k .before .before .loop .place) (r .number) (r .value) (r .next))
+stands k =
+    carried-stands _ _ (octets k) _ (k .carried-at .ensures) (k .before .before .loop .inv .sound) (k .before .loop-test .taken)
 
 -- the attribute that the search has left behind, seen from after it
-abbrev here : (c : tie.Left-search Inv-search μ-search Inv-loop μ-loop) → tie.After-known-told Inv-search μ-search Inv-loop μ-loop
-here c = c .before .before .before
+abbrev here : (c : tie.Left-search Inv-search μ-search Inv-loop μ-loop) → tie.After-carried-at Inv-search μ-search Inv-loop μ-loop
+here c = c .before .before .before .before
 
 -- After the search the flag says whether rule 3 is broken.
 flag : (c : tie.Left-search Inv-search μ-search Inv-loop μ-loop) →
-    (let n = here c .before .number .given .0 .0 in
-    c .search-test .again ≡ (onceOnly n && isIn n (here c .before .before .before .before .loop .inv .seen)))
+    (let n = here c .carried-at .result .number in
+    c .search-test .again ≡ (onceOnly n && isIn n (here c .before .before .loop .inv .seen)))
 flag c =
     let i = c .before .search .inv in
-    let o = here c .before .before .before .before .loop .inv in
+    let o = here c .before .before .loop .inv in
     ⊎-elim (λ w. w .1 ∙ i .1 ∙ looking-none _ _ _ _ _ (i .0) (o .seen) (o .reaches) (w .0 .left))
-    (⊎-elim (λ w. looking-stuck _ _ _ _ _ (i .0) (w .0 .taken) _ (w .1 .ensures) (w .2 .keys2))
-    (λ w. w .6 ∙ looking-found _ _ _ _ _ (i .0) (w .0 .taken) _ (w .1 .ensures) _ _ _ (w .3 .given .1) (o .seen) (o .reaches) (w .5 .taken)))
+    (λ w. w .4 ∙ looking-found _ _ _ _ _ (i .0) (w .0 .taken) _ (w .1 .ensures) (o .seen) (o .reaches) (w .3 .taken))
     (c .search-test .came)
 
 loop-holds : tie.Need-loop-holds Inv-search μ-search Inv-loop μ-loop
-loop-holds c = passing-none _ _ _ _
+loop-holds c = let y = c .before .before .before .pre in passing-none _ _ _ _ _ (y .0 .sound) (y .1)
 
-step-at-requires : tie.Need-step-at-requires Inv-search μ-search Inv-loop μ-loop
-step-at-requires c κs = search needs
-
-enum-known-number : tie.Need-enum-known-number Inv-search μ-search Inv-loop μ-loop
-enum-known-number c = search needs
-
-same-length : tie.Need-same-length Inv-search μ-search Inv-loop μ-loop
-same-length c = laid-kept _ _ _ _ _ (c .before .before .loop .inv .lays)
-
-returns : tie.Need-returns Inv-search μ-search Inv-loop μ-loop
-returns c = passing-done _ _ _ _ _ _ _ (c .before .before .loop .inv) _ (c .before .step-at .ensures) (c .match .keys2)
+carried-at-requires : tie.Need-carried-at-requires Inv-search μ-search Inv-loop μ-loop
+carried-at-requires c κs = search needs
 
 search-end-requires : tie.Need-search-end-requires Inv-search μ-search Inv-loop μ-loop
 search-end-requires c κs = search needs
 
 search-holds : tie.Need-search-holds Inv-search μ-search Inv-loop μ-loop
 search-holds c =
-    let o = c .before .before .before .before .before .loop .inv in
-    (looking-start _ _ (o .seen) _ _ (c .search-end .ensures) (o .reaches), refl)
+    let k = c .before .before in
+    let o = k .before .before .loop .inv in
+    (looking-start _ _ _ (o .seen) _ _ (c .search-end .ensures) (o .reaches) (passing-fresh _ _ _ _ _ _ _ _ o _ _ _ (stands k)), refl)
 
-step-at-requires-2 : tie.Need-step-at-requires-2 Inv-search μ-search Inv-loop μ-loop
-step-at-requires-2 c κs = search needs
-
-enum-known-earlier : tie.Need-enum-known-earlier Inv-search μ-search Inv-loop μ-loop
-enum-known-earlier c = search needs
+carried-at-requires-2 : tie.Need-carried-at-requires-2 Inv-search μ-search Inv-loop μ-loop
+carried-at-requires-2 c κs = search needs
 
 search-less : tie.Need-search-less Inv-search μ-search Inv-loop μ-loop
 search-less c =
-    let s = step-attribute _ _ _ (c .before .before .before .before .step-at2 .ensures) _ _ _ (c .before .before .earlier .given .1) in
-    omega (arith, s .onwards, s .inside)
+    let i = c .before .before .before .before .search .inv in
+    let h = c .before .before .before .search-test .taken in
+    omega (arith, h, looking-on _ _ _ _ _ (i .0) h _ (c .before .before .carried-at2 .ensures))
 
 search-again : tie.Need-search-again Inv-search μ-search Inv-loop μ-loop
 search-again c =
-    let i = c .before .before .before .before .before .before .search .inv in
-    (looking-more _ _ _ _ _ (i .0) (c .before .before .before .before .before .search-test .taken) _ (c .before .before .before .before .step-at2 .ensures) _ _ _ (c .before .before .earlier .given .1) (c .if1 .left), i .1)
+    let i = c .before .before .before .before .search .inv in
+    (looking-more _ _ _ _ _ (i .0) (c .before .before .before .search-test .taken) _ (c .before .before .carried-at2 .ensures) (c .if1 .left), i .1)
 
 part-requires : tie.Need-part-requires Inv-search μ-search Inv-loop μ-loop
 part-requires c κs = search needs
@@ -100,9 +91,9 @@ part-requires c κs = search needs
 at-attribute-requires : tie.Need-at-attribute-requires Inv-search μ-search Inv-loop μ-loop
 at-attribute-requires c κs =
     let k = here (c .before .before) in
-    let p = k .before .before .before .before .loop .inv in
-    let y = k .before .before .before .before .before .before .before .before .pre in
-    (omega (arith, p .few, p .inside, y .short), omega (arith, p .inside, stands k .inside, y .short), low k, y .known, y .row)
+    let p = k .before .before .loop .inv in
+    let y = k .before .before .before .before .before .before .pre .0 in
+    (omega (arith, p .few, p .inside, y .short), omega (arith, p .inside, y .short), stands k .carried (octets k) .low, y .known, y .row)
 
 loop-less : tie.Need-loop-less Inv-search μ-search Inv-loop μ-loop
 loop-less c =
@@ -113,7 +104,13 @@ loop-again : tie.Need-loop-again Inv-search μ-search Inv-loop μ-loop
 loop-again c =
     let t = c .before .before .before .before .before in
     let k = here t in
-    passing-more _ _ _ _ _ _ _ (k .before .before .before .before .loop .inv) _ (k .before .before .before .step-at .ensures) _ _ _ (k .before .number .given .1) (stands k) _ _ _ _ (flag t) (c .before .before .before .before .part .ensures) (c .before .before .at-attribute .ensures)
+    passing-more _ _ _ _ _ _ _ _ (k .before .before .loop .inv) _ (k .carried-at .ensures) (stands k) _ _ _ _ (flag t) (c .before .before .before .before .part .ensures) (c .before .before .at-attribute .ensures)
+
+same-length : tie.Need-same-length Inv-search μ-search Inv-loop μ-loop
+same-length c = laid-kept _ _ _ _ _ (c .before .loop .inv .lays)
+
+returns : tie.Need-returns Inv-search μ-search Inv-loop μ-loop
+returns c = passing-done _ _ _ _ _ _ _ _ (c .before .loop .inv) (c .loop-test .left)
 
 pub along-spec : {M : Type 1} → statement M
 along-spec =
@@ -124,17 +121,15 @@ along-spec =
     Inv-loop
     μ-loop
     loop-holds
-    step-at-requires
-    enum-known-number
-    same-length
-    returns
+    carried-at-requires
     search-end-requires
     search-holds
-    step-at-requires-2
-    enum-known-earlier
+    carried-at-requires-2
     search-less
     search-again
     part-requires
     at-attribute-requires
     loop-less
-    loop-again)
+    loop-again
+    same-length
+    returns)

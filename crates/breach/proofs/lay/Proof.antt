@@ -1,7 +1,7 @@
 -- `breach::lay` meets its contract. Assumes nothing.
 use borrow.Author.Needs.{needs}
 use native.Mathlib.Omega.{arith}
-use Rattle.breach.proofs.Whole.{admitted-known, admitted-ready, too-long, list-empty, list-laid}
+use Rattle.breach.proofs.Whole.{admitted-known, admitted-sound, admitted-ready, too-long, list-empty, list-laid}
 use Rattle.breach.proofs.lay.Statement.{statement}
 use Rattle.breach.proofs.lay.Tie as tie
 
@@ -20,8 +20,8 @@ mul-part c = search needs
 part-requires : tie.Need-part-requires
 part-requires c κs = search needs
 
-seen-in-requires : tie.Need-seen-in-requires
-seen-in-requires c κs = search needs
+numbers-in-requires : tie.Need-numbers-in-requires
+numbers-in-requires c κs = admitted-sound _ _ _ (c .before .before .before .before .before .pre)
 
 slice-relend-prefix-pass : tie.Need-slice-relend-prefix-pass
 slice-relend-prefix-pass c = search needs
@@ -30,28 +30,36 @@ slice-aggregate-pass : tie.Need-slice-aggregate-pass
 slice-aggregate-pass c = search needs
 
 pass-requires : tie.Need-pass-requires
-pass-requires c κs = (admitted-ready _ _ _ (c .before .before .before .before .before .before .before .before .pre) _ _ (c .before .before .before .before .before .presence .ensures) (c .before .before .before .part .ensures), c .before .before .seen-in .ensures)
+pass-requires c κs = (
+  admitted-ready _ _ _ (c .before .before .before .before .before .before .before .before .before .pre) _ _ (c .before .before .before .before .before .before .presence .ensures) (c .before .before .before .before .part .ensures),
+  c .before .before .before .numbers-in .ensures,
+)
 
 same-length : tie.Need-same-length
 same-length c = search needs
 
 returns : tie.Need-returns
-returns c = too-long _ _ _ (c .before .before .before .before .before .before .before .before .before .before .before .before .pre) _ _ _ (c .before .before .before .pass .ensures) (c .if1 .taken)
+returns c = too-long _ _ _ (c .before .before .before .before .before .before .before .before .before .before .before .before .before .pre) _ _ _ (c .before .before .before .pass .ensures) (c .if1 .taken)
 
 same-length-2 : tie.Need-same-length-2
 same-length-2 c = search needs
 
 returns-2 : tie.Need-returns-2
-returns-2 c = list-empty _ _ _ (c .before .before .before .before .before .before .before .before .before .before .before .before .before .pre) _ _ _ (c .before .before .before .before .pass .ensures) (c .if2 .taken)
+returns-2 c = list-empty _ _ _ (c .before .before .before .before .before .before .before .before .before .before .before .before .before .before .pre) _ _ _ (c .before .before .before .before .pass .ensures) (c .if2 .taken)
 
 pass-requires-2 : tie.Need-pass-requires-2
-pass-requires-2 c κs = (admitted-ready _ _ _ (c .before .before .before .before .before .before .before .before .before .before .before .before .before .before .before .pre) _ _ (c .before .before .before .before .before .before .before .before .before .before .before .before .presence .ensures) (c .before .before .before .before .before .before .before .before .before .before .part .ensures), c .before .before .before .before .before .before .before .before .before .seen-in .ensures)
+pass-requires-2 c κs = (
+  admitted-ready _ _ _ (c .before .before .before .before .before .before .before .before .before .before .before .before .before .before .before .before .pre) _ _ (c .before .before .before .before .before .before .before .before .before .before .before .before .before .presence .ensures) (c .before .before .before .before .before .before .before .before .before .before .before .part .ensures),
+  c .before .before .before .before .before .before .before .before .before .before .numbers-in .ensures,
+)
 
 same-length-3 : tie.Need-same-length-3
 same-length-3 c = search needs
 
 returns-3 : tie.Need-returns-3
-returns-3 c = list-laid _ _ _ (c .before .before .before .before .before .before .before .before .before .before .before .before .before .before .before .before .before .before .pre) _ _ _ (c .before .before .before .before .before .before .before .before .before .pass .ensures) _ _ (c .before .before .before .before .before .before .if1 .left) (c .before .before .pass2 .ensures)
+returns-3 c =
+    list-laid _ _ _ (c .before .before .before .before .before .before .before .before .before .before .before .before .before .before .before .before .before .before .before .pre) _ _ _ (c .before .before .before .before .before .before .before .before .before .pass .ensures) _ _
+    (c .before .before .before .before .before .before .if1 .left) (c .before .before .pass2 .ensures)
 
 pub lay-spec : {M : Type 1} → statement M
 lay-spec =
@@ -62,7 +70,7 @@ lay-spec =
     sub-part
     mul-part
     part-requires
-    seen-in-requires
+    numbers-in-requires
     slice-relend-prefix-pass
     slice-aggregate-pass
     pass-requires

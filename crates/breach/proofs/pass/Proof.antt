@@ -18,7 +18,7 @@ same-length : tie.Need-same-length
 same-length c = search needs
 
 returns : tie.Need-returns
-returns c = pass-laid _ _ _ _ _ (c .before .before .before .before .before .before .before .before .before .before .before .before .before .before .before .pre .0) (c .before .before .before .before .before .before .before .before .before .before .before .before .before .before .before .pre .1) _ _ _ _ _ _ _ (c .before .before .before .before .before .before .before .before .before .before .along .ensures) (c .before .before .before .before .before .before .at-end-lacking .ensures) (c .before .before .at-end-wanting .ensures)
+returns c = pass-laid _ _ _ _ _ (c .before .before .before .before .before .before .before .before .before .before .before .before .before .before .before .pre .0) (c .before .before .before .before .before .before .before .before .before .before .before .before .before .before .before .pre .1 .sees) _ _ _ _ _ _ _ (c .before .before .before .before .before .before .before .before .before .before .along .ensures) (c .before .before .before .before .before .before .at-end-lacking .ensures) (c .before .before .at-end-wanting .ensures)
 
 pub pass-spec : {M : Type 1} → statement M
 pass-spec =
