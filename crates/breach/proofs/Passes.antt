@@ -1,10 +1,10 @@
 -- The pass over an area's attributes: what its loop has laid, and the numbers it has seen. Assumes nothing.
-use mathlib.Core.Path.{_≡_, refl, sym, ap, subst, _∙_}
+use mathlib.Core.Path.{_≡_, refl, sym, ap, _∙_}
 use mathlib.Core.Bool.{Bool, true, false, not, _&&_, _||_, or-false}
 use mathlib.Core.List.{List, [], _∷_, _++_, append-assoc, append-nil}
 use Prim.Native.Nat.{ℕ, _*_, _≤_, _<_}
 use native.Mathlib.Omega.{arith}
-use lib.Dec.{T, eqb}
+use lib.Dec.{eqb}
 use lib.ListN.{length, getD, set, replicate, length-set, length-replicate, getD-replicate}
 use lib.Seq.{getD-set-same, getD-set-other}
 use borrow.Author.Tests.{eqb-true, eqb-false}
@@ -13,6 +13,7 @@ use Rattle.meaning.specs.Framing.{Walk, walk, walkAt, attributes}
 use Rattle.meaning.specs.Refusals.{none, fault}
 use Rattle.meaning.specs.Shapes.{shapeOf, meets, allowed}
 use Rattle.meaning.specs.Breaches.{entry, barred, onceOnly, misses, offends, chosen, atAttribute, along, numbersOf}
+use Rattle.meaning.proofs.Tests.{not-both}
 use Rattle.meaning.proofs.Walks.{walk-past}
 use Rattle.octets.specs.Parts.{partOf}
 use Rattle.area.specs.declared.Part.{Part}
@@ -76,7 +77,7 @@ broken-laid kind flags again place n v met off bar d one two three held at first
 -- neither of two where one of them would do
 or-neither : (a b : Bool) → a || b ≡ false → (a ≡ false) × (b ≡ false)
 or-neither false b e = (refl, e)
-or-neither true b e = (e, absurd (subst T e tt))
+or-neither true b e = (e, not-both e)
 
 module _ (kind flags : ℕ) (repeated : Bool) (l d out : List ℕ) (place written : ℕ) (k : Passing kind flags repeated l d out place written) where
   -- the attribute at the place, and what is ahead of it

@@ -14,6 +14,7 @@ use Rattle.meaning.specs.Sheet.{formOf, storedOf, valueOf}
 use Rattle.meaning.proofs.Tests.{is-true, same-itself}
 use Rattle.meaning.proofs.Packing.{unpack-length, unpack-halves}
 use Rattle.octets.specs.DigitStrings.{packedDigits}
+use Rattle.octets.proofs.Unpacking.{decimal-text, eqb-both}
 use Rattle.item.specs.Stands.{held}
 use Rattle.item.proofs.Texts.{values-text, text-length, whole-back, whole-hexes, whole-length, value-text, text-hex}
 
@@ -56,11 +57,7 @@ module _ (a b c : ℕ) (st : List ℕ) (n : length st ≡ packedLength c) (o : O
 -- ---- Hexadecimal text
 
 twice : (c : ℕ) → eqb (2 * c) 16 ≡ eqb c 8
-twice c = go (eqb c 8) refl
-  where
-    go : (b : Bool) → eqb c 8 ≡ b → eqb (2 * c) 16 ≡ b
-    go true e = let h : c ≡ 8 = eqb-true c 8 e in eq-eqb (2 * c) 16 (omega arith)
-    go false e = ne-eqb (2 * c) 16 (λ h. eqb-false c 8 e (omega arith))
+twice c = eqb-both (2 * c) 16 c 8 (λ e. omega arith) (λ e. omega arith)
 
 pub hexadecimal-held : (c : ℕ) (st : List ℕ) → length st ≡ c → Octets st → held hexadecimal c st ≡ eqb c 8
 unfolding held formOf meets valueOf storedOf
@@ -92,10 +89,8 @@ decimal-digit-held c (x ∷ []) = go (leb x 9) refl
     go : (b : Bool) → leb x 9 ≡ b → (isDigit (digitText x) && true) && same (values (digitText x ∷ [])) (x ∷ []) ≡ b
     go true e =
         let h : x ≤ 9 = leb-true x 9 e in
-        rw (value-text x (omega arith), e, le-leb 48 (x + 48) (omega arith), le-leb (x + 48) 57 (omega arith)) (same-self (x ∷ []))
-    go false e =
-        let h : 9 < x = leb-false x 9 e in
-        rw (e, lt-leb (x + 55) 57 (omega arith), and-false (leb 48 (x + 55)))
+        rw (decimal-text x ∙ e, value-text x (omega arith)) (same-self (x ∷ []))
+    go false e = rw (decimal-text x ∙ e)
 decimal-digit-held c (x ∷ y ∷ st) = rw (ne-eqb (length (text (x ∷ y ∷ st))) 1 (λ e. omega arith), ne-eqb (length (x ∷ y ∷ st)) 1 (λ e. omega arith))
 
 -- ---- A QoS profile

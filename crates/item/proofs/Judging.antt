@@ -1,19 +1,21 @@
 -- What the tests of an item say, one answer at a time. Assumes nothing.
-use mathlib.Core.Path.{_≡_, refl, sym, ap, subst, _∙_}
+use mathlib.Core.Path.{_≡_, refl, sym, ap, _∙_}
 use mathlib.Core.Bool.{Bool, true, false, cond, not, _&&_}
-use mathlib.Core.List.{List, [], _∷_, map}
+use mathlib.Core.List.{List, map}
 use Prim.Native.Nat.{ℕ, _+_, _-_, _/_, _<_, _≤_}
 use native.Mathlib.Omega.{arith}
-use lib.Dec.{T, eqb, leb, ltb}
+use lib.Dec.{eqb, leb, ltb}
 use borrow.Author.Tests.{lt-ltb, le-ltb, le-leb, lt-leb, eq-eqb, ne-eqb, eqb-true, eqb-false, ltb-true, ltb-false}
 use lib.ListN.{length}
 use Rattle.meaning.specs.Octets.{numberOf}
 use Rattle.meaning.specs.Framing.{gpp}
-use Rattle.meaning.specs.Shapes.{Shape, number, address, digits, hexadecimal, qos, hexDigit, anyOctet, decimalDigit, atLeast, exactly, blocks, shapeOf}
+use Rattle.meaning.specs.Shapes.{shapeOf}
 use Rattle.meaning.specs.Sheet.{subOf, formOf, form, carries, numberIn, storedLength}
+use Rattle.meaning.proofs.Tests.{not-both}
 use Rattle.octets.specs.Parts.{partOf}
-use Rattle.shape.specs.Codes.{codeOf, shapeAmong, shapeBy}
-use Rattle.shape.proofs.Codes.{Past, none-among, shape-back, form-in-code}
+use Rattle.shape.specs.Codes.{codeOf, shapeBy}
+use Rattle.shape.proofs.Codes.{Past, ownForms, no-form}
+use Rattle.shape.proofs.Formed.{own-form, code-shape}
 use Rattle.item.specs.Stands.{otherVendor, raw, held, shaped, standsFor}
 use Rattle.item.proofs.Standing.{raw-stands, shaped-stands}
 
@@ -72,37 +74,20 @@ module _ (n f : ℕ) (v : List ℕ) (r : ℕ) (is : r ≡ form n v) where
 -- ---- Forms 2 to 7
 
 module _ (n f c : ℕ) (st : List ℕ) (code : ℕ) (is : code ≡ codeOf (shapeOf n)) where
-  own : code / 10 ≡ formOf (shapeOf n)
-  own = ap (λ (k : ℕ). k / 10) is ∙ form-in-code (shapeOf n)
-
   pub shaped-other : (code / 10 ≡ f → ⊥) → false ≡ shaped n f c st
   unfolding shaped
-  shaped-other h = rw (ne-eqb (formOf (shapeOf n)) f (λ e. h (own ∙ e)))
+  shaped-other h = rw (ne-eqb (formOf (shapeOf n)) f (λ e. h (own-form n code is ∙ e)))
 
   pub shaped-held : code / 10 ≡ f → held (shapeBy code) c st ≡ shaped n f c st
   unfolding shaped
-  shaped-held e = rw (eq-eqb (formOf (shapeOf n)) f (sym own ∙ e), ap shapeBy is ∙ shape-back n)
+  shaped-held e = rw (eq-eqb (formOf (shapeOf n)) f (sym (own-form n code is) ∙ e), code-shape n code is)
 
--- the shapes that have a form of their own, in the order of their codes
-abbrev formed : List Shape
-formed = number ∷ address ∷ digits 1 15 ∷ digits 5 6 ∷ hexadecimal ∷ qos ∷ hexDigit ∷ anyOctet ∷ decimalDigit ∷ []
-
--- a code that none of them has holds nothing
-pub none-held : (code c : ℕ) (st : List ℕ) → Past (Unit {0}) code (map codeOf formed) → false ≡ held (shapeBy code) c st
-unfolding shapeBy codeOf held formOf
-none-held code c st p = go (eqb code 1) (eqb code 2) (eqb code 3) (eqb code 4)
-  where
-    go : (a b d e : Bool) → false ≡ held (cond a (atLeast 1) (cond b (atLeast 5) (cond d (exactly 17) (cond e blocks (shapeAmong formed code))))) c st
-    go true b d e = refl
-    go false true d e = refl
-    go false false true e = refl
-    go false false false true = refl
-    go false false false false = rw (none-among (Unit {0}) formed code p)
+-- a code that no shape with a form of its own has holds nothing
+pub none-held : (code c : ℕ) (st : List ℕ) → Past (Unit {0}) code (map codeOf ownForms) → false ≡ held (shapeBy code) c st
+unfolding held
+none-held code c st p = rw (no-form code p)
 
 -- ---- The item
-
-not-both : {X : Type 0} → true ≡ false → X
-not-both e = absurd (subst T e tt)
 
 module _ (t s f c : ℕ) (st : List ℕ) (octet : t < 256) (long : length st ≡ storedLength f c) (n : ℕ) (is : n ≡ numberIn t s f) where
   -- the number of a 3GPP item tells its sub-attribute number

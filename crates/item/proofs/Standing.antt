@@ -3,19 +3,19 @@
 use mathlib.Core.Path.{_≡_, refl, sym, subst, _∙_}
 use mathlib.Core.Logic.{_⊎_, inl, inr, ⊎-elim}
 use mathlib.Core.Bool.{Bool, true, false, cond, not, _&&_, _||_}
-use mathlib.Core.List.{List, [], _∷_}
-use Prim.Native.Nat.{ℕ, _+_, _<_, _≤_}
+use mathlib.Core.List.{List, _∷_}
+use Prim.Native.Nat.{ℕ, _<_, _≤_}
 use native.Mathlib.Omega.{arith}
 use lib.Dec.{T, eqb, leb, eqb→eq, leb→le}
 use borrow.Author.Tests.{lt-ltb, le-ltb, le-leb, lt-leb, eq-eqb, ne-eqb, eqb-true}
-use lib.ListN.{length, take, drop}
+use lib.ListN.{length, take}
 use Rattle.meaning.specs.Octets.{between, all, same, isDigit, isHex, packedLength, unpack, numberOf}
 use Rattle.meaning.specs.Framing.{gpp, isPlain}
 use Rattle.meaning.specs.Shapes.{Shape, number, address, digits, hexadecimal, qos, hexDigit, anyOctet, decimalDigit, atLeast, exactly, blocks, free, plainShape, shapeOf, release, meets}
 use Rattle.meaning.specs.Sheet.{typeOf, subOf, formOf, storedOf, valueOf, decodes, form, stored, count, item, carries, numberIn, storedLength}
 use Rattle.meaning.proofs.Tests.{both, parts, either, is-true, passes, same-one, same-itself}
 use Rattle.meaning.proofs.Packing.{unpack-length}
-use Rattle.meaning.proofs.Forms.{either-way, Decoded, Plainly}
+use Rattle.meaning.proofs.Forms.{released, either-way, Decoded, Plainly}
 use Rattle.shape.proofs.Codes.{fifteen, at-most-fifteen}
 use Rattle.item.specs.Stands.{standsFor, raw, held, shaped}
 use Rattle.item.proofs.Texts.{text-length}
@@ -106,12 +106,8 @@ short-value (digits a b) v d f t =
     let h : length v ≤ b = leb→le (length v) b (parts (leb a (length v)) (leb (length v) b) (parts (between a b (length v)) (all isDigit v) t .0) .1) in
     omega arith
 short-value hexadecimal v d f t = omega (arith, eqb→eq (length v) 16 (parts (eqb (length v) 16) (all isHex v) t .0))
-short-value qos v d f t = ⊎-elim (λ u. omega (arith, long 57 56 6 u)) (λ u. omega (arith, long 57 57 22 u)) (either (release 57 56 6 v) (release 57 57 22 v) t)
-  where
-    long : (a b n : ℕ) → T (release a b n v) → length v ≡ 3 + n
-    long a b n u =
-        let w = parts (same (take 3 v) (a ∷ b ∷ 45 ∷ [])) (eqb (length v) (3 + n) && all isHex (drop 3 v)) u .1 in
-        eqb→eq (length v) (3 + n) (parts (eqb (length v) (3 + n)) (all isHex (drop 3 v)) w .0)
+short-value qos v d f t =
+    ⊎-elim (λ u. omega (arith, released 57 56 6 v u .long)) (λ u. omega (arith, released 57 57 22 v u .long)) (either (release 57 56 6 v) (release 57 57 22 v) t)
 short-value hexDigit v d f t = omega (arith, eqb→eq (length v) 1 (parts (eqb (length v) 1) (all isHex v) t .0))
 short-value anyOctet v d f t = omega (arith, eqb→eq (length v) 1 t)
 short-value decimalDigit v d f t = omega (arith, eqb→eq (length v) 1 (parts (eqb (length v) 1) (all isDigit v) t .0))

@@ -36,14 +36,6 @@ fn refused(sheet: &[u8], number: u32, place: usize) -> Entered
     })
 }
 
-// "Stored octets are count, except form 4: half the count, rounded up".
-pub fn stored_len(form: u8, count: u8) -> usize
-    ensures { λ r. ⌜ r ≡ meant.storedLength form count ⌝ }
-{
-    let n = octets::wide(count);
-    if form == 4 { octets::packed_len(n) } else { n }
-}
-
 // The number that an item's head names; form 0 of type 26 is another vendor's.
 pub fn number_in(t: u8, sub: u8, form: u8) -> u16
     ensures { λ r. ⌜ r ≡ numberIn t sub form ⌝ }
@@ -189,7 +181,7 @@ pub fn item_at(sheet: &[u8], place: usize) -> Entered
     }
     let form = sheet[place + 2];
     let count = sheet[place + 3];
-    let size = 4 + stored_len(form, count);
+    let size = 4 + shape::stored_len(form, count as usize);
     if left < size {
         return refused(sheet, 22, place);
     }

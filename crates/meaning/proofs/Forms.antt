@@ -1,6 +1,6 @@
 -- The forms: a value comes back from what is stored of it, forms 2 to 7 are used exactly when the value meets its shape, and what
 -- is stored is no longer than the value. Assumes nothing.
-use mathlib.Core.Path.{_≡_, refl, sym, ap, subst, _∙_}
+use mathlib.Core.Path.{_≡_, refl, sym, ap, _∙_}
 use mathlib.Core.Logic.{_⊎_, inl, inr, ⊎-elim, _↔_}
 use mathlib.Core.Bool.{Bool, true, false, cond, _&&_}
 use mathlib.Core.List.{List, [], _∷_}
@@ -14,7 +14,7 @@ use Rattle.meaning.specs.Framing.{isPlain}
 use Rattle.meaning.specs.Shapes.{Shape, number, address, digits, hexadecimal, qos, hexDigit, anyOctet, decimalDigit, atLeast, exactly, blocks, free, shapeOf, release, meets}
 use Rattle.meaning.specs.Sheet.{formOf, storedOf, valueOf, decodes, form, stored, count, storedLength, valueIn}
 use Rattle.meaning.proofs.Packing.{Hexes, digits-hexes, hexes-octets, values-length, pack-length, text-values, text-back, text-back-even, values-halves, halves-octets, packed-octets}
-use Rattle.meaning.proofs.Tests.{parts, either, passes, same-one}
+use Rattle.meaning.proofs.Tests.{parts, either, passes, not-both, same-one}
 
 -- ---- Only-form
 
@@ -50,12 +50,12 @@ only-form n v = (there, back)
 -- ---- The value comes back
 
 -- what a QoS text of a release is made of
-record Released (a b n : ℕ) (v : List ℕ) : Type 0 where
-  front : take 3 v ≡ a ∷ b ∷ 45 ∷ []
-  long : length v ≡ 3 + n
-  hexes : Hexes (drop 3 v)
+pub record Released (a b n : ℕ) (v : List ℕ) : Type 0 where
+  pub front : take 3 v ≡ a ∷ b ∷ 45 ∷ []
+  pub long : length v ≡ 3 + n
+  pub hexes : Hexes (drop 3 v)
 
-released : (a b n : ℕ) (v : List ℕ) → T (release a b n v) → Released a b n v
+pub released : (a b n : ℕ) (v : List ℕ) → T (release a b n v) → Released a b n v
 released a b n v t =
     let u : T (eqb (length v) (3 + n) && all isHex (drop 3 v)) = parts (same (take 3 v) (a ∷ b ∷ 45 ∷ [])) _ t .1 in
     record {
@@ -204,7 +204,7 @@ either-way n v = go (leb 2 (formOf (shapeOf n)) && meets (shapeOf n) v) refl
         })
     go false e = inr (record { form-is = rw e; stored-is = rw e })
 
-raw-not-4 : (b : Bool) → eqb (cond b 0 1) 4 ≡ false
+pub raw-not-4 : (b : Bool) → eqb (cond b 0 1) 4 ≡ false
 raw-not-4 true = refl
 raw-not-4 false = refl
 
@@ -221,7 +221,7 @@ announced n v = go (eqb (form n v) 4) refl (either-way n v)
     go false e w = refl
     go true e (inl d) =
         sym (ap length (d .stored-is) ∙ digits-stored (shapeOf n) v (sym (d .form-is) ∙ eqb-true (form n v) 4 e))
-    go true e (inr p) = let f : true ≡ false = sym e ∙ rw (p .form-is) (raw-not-4 (isPlain n)) in absurd (subst T f tt)
+    go true e (inr p) = let f : true ≡ false = sym e ∙ rw (p .form-is) (raw-not-4 (isPlain n)) in not-both f
 
 -- An item stands for its value.
 pub stands-for : (n : ℕ) (v : List ℕ) → valueIn n (form n v) (count n v) (stored n v) ≡ v

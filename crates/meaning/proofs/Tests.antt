@@ -39,6 +39,10 @@ is-true false t = absurd t
 pub passes : (b : Bool) → b ≡ true → T b
 passes b e = subst T (sym e) tt
 
+-- no test is both true and false
+pub not-both : {X : Type 0} → true ≡ false → X
+not-both e = absurd (subst T e tt)
+
 -- lists that test the same are the same
 pub same-one : (l m : List ℕ) → T (same l m) → l ≡ m
 same-one [] [] t = refl

@@ -13,7 +13,8 @@ use Rattle.meaning.proofs.Packing.{pack-length, values-length, values-halves, d
 use Rattle.meaning.proofs.Tests.{passes, is-true}
 use Rattle.octets.specs.declared.Got.{Got}
 use Rattle.octets.specs.DigitStrings.{halves, padded, digitsOf, noDigits, gotOf, heldOf, packedOf}
-use Rattle.octets.proofs.Overs.{Written, written-all, over-front}
+use Rattle.octets.specs.Parts.{Written}
+use Rattle.octets.proofs.Overs.{written-all, over-front}
 use Rattle.octets.proofs.Halves.{halves-length, halves-values, halves-modulo}
 
 -- ---- When a text is a digit string

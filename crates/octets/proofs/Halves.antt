@@ -1,7 +1,7 @@
 -- Halves two to an octet, once over the count: what stands at each place. Assumes nothing.
 use mathlib.Core.Path.{_≡_, refl, sym, ap, ap₂, _∙_}
 use mathlib.Core.List.{List, [], _∷_, map}
-use Prim.Native.Nat.{ℕ, zero, suc, _+_, _*_, _%_, _<_, _≤_}
+use Prim.Native.Nat.{ℕ, zero, suc, _+_, _*_, _/_, _%_, _<_, _≤_}
 use native.Mathlib.Omega.{arith}
 use native.Mathlib.Nat.{mod-eq-of-lt}
 use lib.Dec.{T}
@@ -10,10 +10,11 @@ use lib.Seq.{getD-take, length-take-le}
 use Rattle.meaning.specs.Octets.{all, pack, packedLength, isHex, digitValue, values}
 use Rattle.meaning.proofs.Packing.{Halves, pack-length, values-halves}
 use Rattle.octets.specs.DigitStrings.{halves, heldOf}
-use Rattle.octets.proofs.Overs.{Written, written-more}
+use Rattle.octets.specs.Parts.{Written}
+use Rattle.octets.proofs.Overs.{written-more}
 
 -- The octet at a place is the pair of halves from twice the place on; "an odd last low half is 15".
-pub pair-at : (l : List ℕ) (i : ℕ) → i < packedLength (length l) → getD (pack l) i 0 ≡ getD l (2 * i) 15 * 16 + getD l (2 * i + 1) 15
+pair-at : (l : List ℕ) (i : ℕ) → i < packedLength (length l) → getD (pack l) i 0 ≡ getD l (2 * i) 15 * 16 + getD l (2 * i + 1) 15
 unfolding pack
 pair-at [] i h = absurd (omega arith)
 pair-at (a ∷ []) zero h = refl
@@ -24,20 +25,10 @@ pair-at (a ∷ b ∷ l) (suc i) h =
     let low : 2 * suc i + 1 ≡ suc (suc (2 * i + 1)) = omega arith in
     pair-at l i (omega arith) ∙ rw (low, high)
 
--- a loop over the octets has written the pairs before i, and writes the next
-pub pair-written : (l d out : List ℕ) (i high low x : ℕ) → Written (pack l) d out i → i < packedLength (length l) → high ≡ getD l (2 * i) 15 → low ≡ getD l (2 * i + 1) 15 → x ≡ high * 16 + low → Written (pack l) d (set out i x) (i + 1)
-pair-written l d out i high low x w h p q r =
-    written-more (pack l) d out i x w (omega (arith, pack-length l)) (r ∙ ap₂ (λ (a b : ℕ). a * 16 + b) p q ∙ sym (pair-at l i h))
-
 pub map-at : (f : ℕ → ℕ) (l : List ℕ) (k d e : ℕ) → k < length l → getD (map f l) k e ≡ f (getD l k d)
 map-at f [] k d e h = absurd (omega arith)
 map-at f (x ∷ l) zero d e h = refl
 map-at f (x ∷ l) (suc k) d e h = map-at f l k d e (omega arith)
-
-below-16 : (f : ℕ → ℕ) (l : List ℕ) (k : ℕ) → getD (map (λ x. f x % 16) l) k 15 < 16
-below-16 f [] k = omega arith
-below-16 f (x ∷ l) zero = omega arith
-below-16 f (x ∷ l) (suc k) = below-16 f l k
 
 -- ---- The halves of a text
 
@@ -49,16 +40,25 @@ module _ (l : List ℕ) where
   pub halves-packed : length (pack (halves l)) ≡ packedLength (length l)
   halves-packed = pack-length (halves l) ∙ ap packedLength halves-length
 
-  pub halves-low : (k : ℕ) → getD (halves l) k 15 < 16
-  unfolding halves
-  halves-low k = below-16 digitValue l k
-
   pub halves-at : (k e : ℕ) → k < length l → getD (halves l) k e ≡ digitValue (getD l k 0) % 16
   unfolding halves
   halves-at k e h = map-at (λ x. digitValue x % 16) l k 0 e h
 
-  pub halves-past : (k e : ℕ) → length l ≤ k → getD (halves l) k e ≡ e
+  halves-past : (k e : ℕ) → length l ≤ k → getD (halves l) k e ≡ e
   halves-past k e h = List·getD-eq-default (halves l) e (omega (arith, halves-length))
+
+  -- the octet of two halves, and that of an odd last one
+  pub halves-two : (i : ℕ) → i < length l / 2 → (high low x : ℕ) → high ≡ digitValue (getD l (2 * i) 0) % 16 → low ≡ digitValue (getD l (2 * i + 1) 0) % 16 → x ≡ high * 16 + low → x ≡ getD (pack (halves l)) i 0
+  halves-two i h high low x p q r =
+      r
+      ∙ ap₂ (λ (a b : ℕ). a * 16 + b) (p ∙ sym (halves-at (2 * i) 15 (omega arith))) (q ∙ sym (halves-at (2 * i + 1) 15 (omega arith)))
+      ∙ sym (pair-at (halves l) i (omega (arith, halves-length)))
+
+  pub halves-one : (i : ℕ) → length l / 2 ≤ i → 2 * i < length l → (high x : ℕ) → high ≡ digitValue (getD l (2 * i) 0) % 16 → x ≡ high * 16 + 15 → x ≡ getD (pack (halves l)) i 0
+  halves-one i h k high x p r =
+      r
+      ∙ ap₂ (λ (a b : ℕ). a * 16 + b) (p ∙ sym (halves-at (2 * i) 15 k)) (sym (halves-past (2 * i + 1) 15 (omega arith)))
+      ∙ sym (pair-at (halves l) i (omega (arith, halves-length)))
 
 -- halves are what they are modulo 16
 pub halves-modulo : (l : List ℕ) → Halves l → map (λ x. x % 16) l ≡ l
@@ -81,20 +81,31 @@ halves-as-stored l t = ap pack (halves-values l t)
 -- ---- The digits that octets hold
 
 module _ (n : ℕ) (l : List ℕ) (few : n ≤ length l) where
-  pub held-length : length (heldOf n l) ≡ n
+  held-length : length (heldOf n l) ≡ n
   unfolding heldOf
   held-length = length-map (take n l) (λ x. x % 16) ∙ length-take-le n l few
 
   pub held-packed : length (pack (heldOf n l)) ≡ packedLength n
   held-packed = pack-length (heldOf n l) ∙ ap packedLength held-length
 
-  pub held-low : (k : ℕ) → getD (heldOf n l) k 15 < 16
-  unfolding heldOf
-  held-low k = below-16 (λ x. x) (take n l) k
-
-  pub held-at : (k : ℕ) → k < n → getD (heldOf n l) k 15 ≡ getD l k 0 % 16
+  held-at : (k : ℕ) → k < n → getD (heldOf n l) k 15 ≡ getD l k 0 % 16
   unfolding heldOf
   held-at k h = map-at (λ x. x % 16) (take n l) k 0 15 (omega (arith, length-take-le n l few)) ∙ ap (λ (x : ℕ). x % 16) (getD-take n l k 0 h)
 
-  pub held-past : (k : ℕ) → n ≤ k → getD (heldOf n l) k 15 ≡ 15
+  held-past : (k : ℕ) → n ≤ k → getD (heldOf n l) k 15 ≡ 15
   held-past k h = List·getD-eq-default (heldOf n l) 15 (omega (arith, held-length))
+
+  -- a loop over the octets has written the pairs before i, and writes the next, or an odd last digit
+  pub two-held : (d out : List ℕ) (i x : ℕ) → Written (pack (heldOf n l)) d out i → i < n / 2 → x ≡ getD l (2 * i) 0 % 16 * 16 + getD l (2 * i + 1) 0 % 16 → Written (pack (heldOf n l)) d (set out i x) (i + 1)
+  two-held d out i x w h r =
+      written-more (pack (heldOf n l)) d out i x w (omega (arith, held-packed))
+      (r
+      ∙ ap₂ (λ (a b : ℕ). a * 16 + b) (sym (held-at (2 * i) (omega arith))) (sym (held-at (2 * i + 1) (omega arith)))
+      ∙ sym (pair-at (heldOf n l) i (omega (arith, held-length))))
+
+  pub one-held : (d out : List ℕ) (i x : ℕ) → Written (pack (heldOf n l)) d out i → n / 2 ≤ i → 2 * i < n → x ≡ getD l (2 * i) 0 % 16 * 16 + 15 → Written (pack (heldOf n l)) d (set out i x) (i + 1)
+  one-held d out i x w h k r =
+      written-more (pack (heldOf n l)) d out i x w (omega (arith, held-packed))
+      (r
+      ∙ ap₂ (λ (a b : ℕ). a * 16 + b) (sym (held-at (2 * i) k)) (sym (held-past (2 * i + 1) (omega arith)))
+      ∙ sym (pair-at (heldOf n l) i (omega (arith, held-length))))

@@ -9,9 +9,9 @@ use borrow.Author.Tests.{le-leb, lt-leb, leb-true, leb-false}
 use borrow.Rule.Slice.PartMut.{putMid}
 use lib.Dec.{leb}
 use lib.ListN.{length, take, drop, getD, set, length-append, length-take, length-drop, length-set, drop-of-length-le}
-use lib.Seq.{length-take-le, take-length, take-all, take-suc, drop-cons, drop-drop, set-at, append-snoc, take-at, drop-at}
+use lib.Seq.{length-take-le, take-length, take-all, take-suc, drop-cons, drop-drop, drop-append-add, take-add, paste, paste-zero, paste-suc, set-at, append-snoc, take-at, drop-at}
 use Rattle.meaning.specs.Answers.{over}
-use Rattle.octets.specs.Parts.{fitsAt, laidAt, Laid}
+use Rattle.octets.specs.Parts.{partOf, Written, fitsAt, laidAt, Laid}
 
 pub over-none : (d : List ℕ) → over [] d ≡ d
 unfolding over
@@ -32,14 +32,19 @@ over-snoc s d x n e h =
     let g : length (s ++ (x ∷ [])) ≡ suc n = simp length-append (omega arith) in
     rw (e, g, drop-cons d n 0 h, set-at s _ (drop (suc n) d) x n e, append-snoc s x)
 
--- ---- By a loop
+-- of two that are laid over one behind the other only the later is seen, where it is as long
+over-again : (s t d : List ℕ) → length t ≤ length s → over s (over t d) ≡ over s d
+unfolding over
+over-again s t d h =
+    let n : ℕ = length s - length t in
+    let size : length s ≡ length t + n = omega arith in
+    ap (λ (r : List ℕ). s ++ r)
+    (ap (λ (k : ℕ). drop k (t ++ drop (length t) d)) size
+    ∙ drop-append-add t (drop (length t) d) n
+    ∙ drop-drop n (length t) d
+    ∙ ap (λ (k : ℕ). drop k d) (sym size))
 
--- the first i of s are laid over the start of d
-pub record Written (s d out : List ℕ) (i : ℕ) : Type 0 where
-  pub within : i ≤ length s
-  pub room : length s ≤ length d
-  pub kept : length out ≡ length d
-  pub is : out ≡ over (take i s) d
+-- ---- By a loop
 
 pub written-none : (s d : List ℕ) → length s ≤ length d → Written s d d 0
 written-none s d h = record { within = omega arith; room = h; kept = refl; is = sym (over-none d) }
@@ -56,6 +61,33 @@ written-more s d out i x w h e =
 
 pub written-all : (s d out : List ℕ) (i : ℕ) → Written s d out i → length s ≤ i → out ≡ over s d
 written-all s d out i w h = let e : i ≡ length s = omega (arith, w .within) in w .is ∙ rw (e, take-length s)
+
+-- What is written stands there for whoever writes the rest.
+pub written-begun : (s d out : List ℕ) (i : ℕ) → Written s d out i → Written s out out i
+written-begun s d out i w =
+    let t : List ℕ = take i s in
+    record {
+      within = w .within;
+      room = omega (arith, w .room, w .kept);
+      kept = refl;
+      is = w .is ∙ sym (over-again t t d (omega arith)) ∙ ap (over t) (sym (w .is));
+    }
+
+-- And the rest may be written by another.
+pub written-on : (s d out out′ : List ℕ) (i j : ℕ) → Written s d out i → Written s out out′ j → i ≤ j → Written s d out′ j
+written-on s d out out′ i j w v h =
+    record {
+      within = v .within;
+      room = w .room;
+      kept = v .kept ∙ w .kept;
+      is = v .is ∙ ap (over (take j s)) (w .is) ∙ over-again (take j s) (take i s) d (omega (arith, length-take-le i s (w .within), length-take-le j s (v .within)));
+    }
+
+pub written-end : (s d out out′ : List ℕ) (i : ℕ) → Written s d out i → out′ ≡ over s out → out′ ≡ over s d
+written-end s d out out′ i w e = e ∙ ap (over s) (w .is) ∙ over-again s (take i s) d (omega (arith, length-take-le i s (w .within), w .within))
+
+pub written-as : (s d out o : List ℕ) (i j : ℕ) → Written s d o j → out ≡ o → i ≡ j → Written s d out i
+written-as s d out o i j w p q = rw (p, q) w
 
 -- ---- From a place on
 
@@ -112,6 +144,49 @@ laid-behind s t d held at n e h =
     ∙ laid-fits at t (over s d) (omega arith)
     ∙ rw (take-at s (drop (length s) d) at n, drop-at s (drop (length s) d) at n, drop-drop (length t) (length s) d, length-append s t, append-assoc s t)
 
+-- So a part of what is written, laid right behind what was written of it, is written too.
+pub written-part : (s d out t o : List ℕ) (i n j : ℕ) → Written s d out i → j ≡ i + n → j ≤ length s → t ≡ partOf s i n → o ≡ laidAt i t out → Written s d o j
+unfolding partOf
+written-part s d out t o i n j w j-is h p q =
+    let part : t ≡ take n (drop i s) = p in
+    let size : length t ≡ n = ap length part ∙ length-take n (drop i s) ∙ omega (arith, length-drop i s) in
+    record {
+      within = h;
+      room = w .room;
+      kept = ap length q ∙ laid-length i t out ∙ w .kept;
+      is = q ∙ laid-behind (take i s) t d out i (length-take-le i s (w .within)) (w .is) (omega (arith, w .room))
+          ∙ ap (λ (r : List ℕ). over r d) (ap (λ (r : List ℕ). take i s ++ r) part ∙ sym (take-add i n s) ∙ ap (λ (k : ℕ). take k s) (sym j-is));
+    }
+
+-- the first i of s are laid over d from a place on
+pub record Begun (at : ℕ) (s d out : List ℕ) (i : ℕ) : Type 0 where
+  pub within : i ≤ length s
+  pub room : at + length s ≤ length d
+  pub kept : length out ≡ length d
+  pub is : out ≡ paste d at s i
+
+pub begun-none : (at : ℕ) (s d : List ℕ) → at + length s ≤ length d → Begun at s d d 0
+begun-none at s d h = record { within = omega arith; room = h; kept = refl; is = paste-zero d at s }
+
+module _ (at : ℕ) (s d out : List ℕ) (i : ℕ) (u : Begun at s d out i) where
+  pub begun-more : i < length s → Begun at s d (set out (at + i) (getD s i 0)) (i + 1)
+  begun-more h =
+      record {
+        within = omega arith;
+        room = u .room;
+        kept = length-set out (at + i) (getD s i 0) ∙ u .kept;
+        is = ap (λ (o : List ℕ). set o (at + i) (getD s i 0)) (u .is) ∙ paste-suc d at s i 0 (omega (arith, u .room)) h ∙ ap (paste d at s) (sym (add-one i));
+      }
+
+  pub begun-all : length s ≤ i → out ≡ laidAt at s d
+  unfolding over
+  begun-all h =
+      let e : i ≡ length s = omega (arith, u .within) in
+      u .is
+      ∙ rw (e, take-length s) (append-assoc (take at d) s (drop (at + length s) d))
+      ∙ ap (λ (r : List ℕ). take at d ++ (s ++ r)) (sym (drop-drop (length s) at d))
+      ∙ sym (laid-fits at s d (u .room))
+
 -- Laid one behind the other, two pieces stand as one.
 pub laid-two : (at n : ℕ) (s t d : List ℕ) → length s ≡ n → at + (n + length t) ≤ length d → laidAt (at + n) t (laidAt at s d) ≡ laidAt at (s ++ t) d
 unfolding over
@@ -162,6 +237,13 @@ module _ (at : ℕ) (s d : List ℕ) (n : ℕ) (fit : Bool) (size : n ≡ length
         says = sym e ∙ fit-is;
         holds = ap (λ (r : List ℕ). take at d ++ r) (ap (λ (r : List ℕ). p ++ r) none ∙ append-nil p ∙ q ∙ ap (over s) all) ∙ sym (laid-fits at s d (omega arith));
       }
+
+-- the same, where the room itself was tested
+pub laid-short : (at : ℕ) (s d : List ℕ) → length d < at + length s → Laid at s d false d
+laid-short at s d h = laid-not at s d (length s) _ refl refl (lt-leb (at + length s) (length d) h)
+
+pub laid-there : (at : ℕ) (s d p : List ℕ) → at + length s ≤ length d → p ≡ over s (take (length d - at) (drop at d)) → Laid at s d true (putMid at (length d - at) d p)
+laid-there at s d p h q = laid-part at s d (length s) _ refl refl p (le-leb (at + length s) (length d) h) q
 
 -- Any two answers that a writer's promise permits are the same, the buffer included.
 pub one-laid : (at : ℕ) (s d : List ℕ) (said said′ : Bool) (held held′ : List ℕ) → Laid at s d said held → Laid at s d said′ held′ → (said ≡ said′) × (held ≡ held′)

@@ -1,11 +1,11 @@
 -- Laws of a part of octets: its length, and that it holds octets. Assumes nothing.
-use mathlib.Core.Path.{_≡_, sym, ap, _∙_}
-use mathlib.Core.List.{List, []}
-use Prim.Native.Nat.{ℕ, _+_, _-_, _^_, _<_, _≤_, min}
+use mathlib.Core.Path.{_≡_, refl, sym, ap, ap₂, _∙_}
+use mathlib.Core.List.{List, [], _∷_}
+use Prim.Native.Nat.{ℕ, suc, _+_, _-_, _^_, _<_, _≤_, min}
 use native.Mathlib.Nat.{pow-le-pow-right}
 use native.Mathlib.Omega.{arith}
-use lib.ListN.{length, take, drop, length-take, length-drop, drop-of-length-le}
-use lib.Seq.{take-all, take-nil}
+use lib.ListN.{length, take, drop, getD, length-take, length-drop, drop-of-length-le}
+use lib.Seq.{take-all, take-nil, drop-cons}
 use Rattle.meaning.specs.Octets.{Octets}
 use Rattle.meaning.proofs.Octets.{octets-take, octets-drop}
 use Rattle.octets.specs.Parts.{partOf}
@@ -37,6 +37,15 @@ part-to-end l at n h = take-all (length l - at) (drop at l) (omega (arith, lengt
 -- from the first octet on, as long as the whole, it is the whole
 pub part-whole : (l : List ℕ) → partOf l 0 (length l) ≡ l
 part-whole l = part-rest l 0 (length l) (omega arith)
+
+-- four octets that are there, by their places
+pub part-four : (l : List ℕ) (at a b c d : ℕ) → at + 4 ≤ length l → a ≡ getD l at 0 → b ≡ getD l (at + 1) 0 → c ≡ getD l (at + 2) 0 → d ≡ getD l (at + 3) 0 → a ∷ b ∷ c ∷ d ∷ [] ≡ partOf l at 4
+unfolding partOf
+part-four l at a b c d h p q r t =
+    sym (ap (take 4) (more at (at + 1) a _ (omega arith) (omega arith) p (more (at + 1) (at + 2) b _ (omega arith) (omega arith) q (more (at + 2) (at + 3) c _ (omega arith) (omega arith) r (more (at + 3) (at + 4) d _ (omega arith) (omega arith) t refl)))))
+  where
+    more : (i next x : ℕ) (rest : List ℕ) → suc i ≡ next → i < length l → x ≡ getD l i 0 → drop next l ≡ rest → drop i l ≡ x ∷ rest
+    more i next x rest e g f k = drop-cons l i 0 g ∙ ap₂ _∷_ (sym f) (ap (λ (n : ℕ). drop n l) e ∙ k)
 
 -- a part of octets holds octets
 pub part-octets : (l : List ℕ) (at n : ℕ) → Octets l → Octets (partOf l at n)

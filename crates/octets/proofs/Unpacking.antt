@@ -12,7 +12,8 @@ use lib.Seq.{drop-cons}
 use Rattle.meaning.specs.Octets.{all, same, pack, unpack, packedLength, isDigit, digitText, text}
 use Rattle.meaning.specs.Answers.{over}
 use Rattle.octets.specs.DigitStrings.{packedDigits}
-use Rattle.octets.proofs.Overs.{Written, written-more}
+use Rattle.octets.specs.Parts.{Written}
+use Rattle.octets.proofs.Overs.{written-more}
 use Rattle.octets.proofs.Halves.{map-at}
 
 -- ---- The text of halves
@@ -84,7 +85,7 @@ module _ (c : ℕ) (s d out : List ℕ) (i : ℕ) (w : Written (text (unpack c s
 -- ---- When octets are so many decimal digits
 
 -- a half's digit is a decimal digit exactly up to 9
-decimal-text : (n : ℕ) → isDigit (digitText n) ≡ leb n 9
+pub decimal-text : (n : ℕ) → isDigit (digitText n) ≡ leb n 9
 decimal-text n = go (leb n 9) refl
   where
     go : (b : Bool) → leb n 9 ≡ b → isDigit (digitText n) ≡ b
@@ -95,7 +96,7 @@ decimal-text n = go (leb n 9) refl
         let h : 9 < n = leb-false n 9 e in
         rw (e, le-leb 48 (n + 55) (omega arith), lt-leb (n + 55) 57 (omega arith))
 
-eqb-both : (a b c d : ℕ) → (a ≡ b → c ≡ d) → (c ≡ d → a ≡ b) → eqb a b ≡ eqb c d
+pub eqb-both : (a b c d : ℕ) → (a ≡ b → c ≡ d) → (c ≡ d → a ≡ b) → eqb a b ≡ eqb c d
 eqb-both a b c d f g = go (eqb a b) refl
   where
     go : (t : Bool) → eqb a b ≡ t → t ≡ eqb c d

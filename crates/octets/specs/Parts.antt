@@ -1,5 +1,5 @@
 -- Parts of an area, a sheet or a buffer: taken, read as a number, laid over. Assumes nothing.
-use Prim.Native.Nat.{ℕ, _+_, _^_, _<_}
+use Prim.Native.Nat.{ℕ, _+_, _^_, _<_, _≤_}
 use mathlib.Core.Path.{_≡_}
 use mathlib.Core.Bool.{Bool, cond}
 use mathlib.Core.List.{List, _++_}
@@ -16,6 +16,13 @@ partOf l at n = take n (drop at l)
 pub record Numbered (l : List ℕ) (r : ℕ) : Type 0 where
   pub is : r ≡ numberOf l
   pub fits : r < 256 ^ length l
+
+-- out is the buffer d with the first i of s over its start, and d has room for the rest of s
+pub record Written (s d out : List ℕ) (i : ℕ) : Type 0 where
+  pub within : i ≤ length s
+  pub room : length s ≤ length d
+  pub kept : length out ≡ length d
+  pub is : out ≡ over (take i s) d
 
 -- the octets s fit into the buffer d from a place on
 unfoldable pub fitsAt : (at : ℕ) (s d : List ℕ) → Bool

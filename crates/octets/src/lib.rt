@@ -7,7 +7,7 @@ ghost use lib.Dec.{eqb, leb};
 ghost use lib.ListN.{length, getD};
 ghost use Rattle.meaning.specs.Octets.{all, numberOf, octetsOf, pack, unpack, packedLength, isDigit, isHex, digitValue, digitText, text};
 ghost use Rattle.meaning.specs.Answers.{over};
-ghost use Rattle.octets.specs.Parts.{partOf, Numbered, Laid};
+ghost use Rattle.octets.specs.Parts.{partOf, Numbered, Written, laidAt, Laid};
 ghost use Rattle.octets.specs.DigitStrings.{halves, padded, heldOf, noDigits, gotOf, packedOf, packedDigits};
 
 // "at most fifteen digits together with their count": the digits' values, with zeros behind them.
@@ -77,10 +77,24 @@ pub fn u16_at(s: &[u8], at: usize) -> u16
     number(part(s, at, 2)) as u16
 }
 
+// The four octets at a place.
+fn four_at(s: &[u8], at: usize) -> [u8; 4]
+    requires { ⌜ at + 4 ≤ length (now s) ⌝ }
+    ensures { λ r. ⌜ r ≡ partOf (now (s .entry)) at 4 ⌝ }
+{
+    [s[at], s[at + 1], s[at + 2], s[at + 3]]
+}
+
 // The 32-bit number at a place.
 pub fn u32_at(s: &[u8], at: usize) -> u32
     ensures { λ r. ⌜ r ≡ numberOf (partOf (now (s .entry)) at 4) ⌝ }
 {
+    if 4 <= s.len() {
+        if at <= s.len() - 4 {
+            let four = four_at(s, at);
+            return number(&four) as u32;
+        }
+    }
     number(part(s, at, 4)) as u32
 }
 
@@ -143,23 +157,68 @@ fn fits(room: usize, at: usize, n: usize) -> bool
     n <= room - at
 }
 
-// Copies `src` over the start of `buf`.
-fn copy(buf: &mut [u8], src: &[u8])
-    requires { ⌜ length (now src) ≤ length (now buf) ⌝ }
-    ensures { λ _. ⌜ now (buf .exit) ≡ over (now (src .entry)) (now (buf .entry)) ⌝ }
+// Lays octets over `buf` from a place on.
+fn lay_at(buf: &mut [u8], at: usize, s: &[u8])
+    requires { ⌜ at + length (now s) ≤ length (now buf) ⌝ }
+    ensures { λ _. ⌜ now (buf .exit) ≡ laidAt at (now (s .entry)) (now (buf .entry)) ⌝ }
 {
     let mut i: usize = 0;
+    while i < s.len() {
+        buf[at + i] = s[i];
+        i += 1;
+    }
+}
+
+// Copies the eight octets of `src` at a place, where those before it are copied. All are read before any is written, so
+// that they can go as one.
+fn copy_eight(buf: &mut [u8], src: &[u8], at: usize)
+    requires { ⌜ Written (now src) (now buf) (now buf) at × (at + 8 ≤ length (now src)) ⌝ }
+    ensures { λ _. ⌜ Written (now (src .entry)) (now (buf .entry)) (now (buf .exit)) (at + 8) ⌝ }
+{
+    let first = four_at(src, at);
+    let second = four_at(src, at + 4);
+    lay_at(buf, at, &first);
+    lay_at(buf, at + 4, &second);
+}
+
+// Copies what is left of `src` from a place on, where the octets before it are copied.
+fn copy_rest(buf: &mut [u8], src: &[u8], at: usize)
+    requires { ⌜ Written (now src) (now buf) (now buf) at ⌝ }
+    ensures { λ _. ⌜ now (buf .exit) ≡ over (now (src .entry)) (now (buf .entry)) ⌝ }
+{
+    let mut i = at;
+    if 4 <= src.len() - i {
+        let four = four_at(src, i);
+        lay_at(buf, i, &four);
+        i += 4;
+    }
     while i < src.len() {
         buf[i] = src[i];
         i += 1;
     }
 }
 
+// Copies `src` over the start of `buf`.
+fn copy(buf: &mut [u8], src: &[u8])
+    requires { ⌜ length (now src) ≤ length (now buf) ⌝ }
+    ensures { λ _. ⌜ now (buf .exit) ≡ over (now (src .entry)) (now (buf .entry)) ⌝ }
+{
+    let mut i: usize = 0;
+    while 8 <= src.len() - i {
+        copy_eight(buf, src, i);
+        i += 8;
+    }
+    copy_rest(buf, src, i);
+}
+
 // Copies `src` over `buf` from the place `at` on and says true, if it fits; else changes nothing and says false.
 pub fn copy_at(buf: &mut [u8], at: usize, src: &[u8]) -> bool
     ensures { λ r. ⌜ Laid at (now (src .entry)) (now (buf .entry)) r (now (buf .exit)) ⌝ }
 {
-    if !fits(buf.len(), at, src.len()) {
+    if buf.len() < at {
+        return false;
+    }
+    if buf.len() - at < src.len() {
         return false;
     }
     copy(&mut buf[at..], src);
@@ -251,13 +310,14 @@ pub fn digits_of(text: &[u8]) -> Got
     if 15 < text.len() {
         return none();
     }
-    if !all_digits(text) {
-        return none();
-    }
     let mut octets = [0u8; 15];
     let mut i: usize = 0;
     while i < text.len() {
-        octets[i] = half_of(text[i]);
+        let x = text[i];
+        if !is_digit(x) {
+            return none();
+        }
+        octets[i] = half_of(x);
         i += 1;
     }
     Got {
@@ -288,25 +348,20 @@ fn least(a: usize, b: usize) -> usize
     if a < b { a } else { b }
 }
 
-// The half at `k` of the first `n` digits; "an odd last low half is 15".
-fn digit_at(octets: [u8; 15], n: usize, k: usize) -> u8
-    requires { ⌜ n ≤ 15 ⌝ }
-    ensures { λ r. ⌜ r ≡ getD (heldOf n octets) k 15 ⌝ }
+// The first `count` digits two to an octet; "an odd last low half is 15".
+fn pack_digits(octets: [u8; 15], count: usize) -> [u8; 8]
+    requires { ⌜ count ≤ 15 ⌝ }
+    ensures { λ r. ⌜ r ≡ padded 8 (pack (heldOf count octets)) ⌝ }
 {
-    if k < n { octets[k] % 16 } else { 15 }
-}
-
-// The first `n` digits two to an octet.
-fn pack_digits(octets: [u8; 15], n: usize) -> [u8; 8]
-    requires { ⌜ n ≤ 15 ⌝ }
-    ensures { λ r. ⌜ r ≡ padded 8 (pack (heldOf n octets)) ⌝ }
-{
-    let len = packed_len(n);
+    let pairs = count / 2;
     let mut out = [0u8; 8];
     let mut i: usize = 0;
-    while i < len {
-        out[i] = pair(digit_at(octets, n, 2 * i), digit_at(octets, n, 2 * i + 1));
+    while i < pairs {
+        out[i] = pair(octets[2 * i] % 16, octets[2 * i + 1] % 16);
         i += 1;
+    }
+    if 2 * i < count {
+        out[i] = pair(octets[2 * i] % 16, 15);
     }
     out
 }
@@ -323,11 +378,43 @@ pub fn packed_of(d: Digits) -> Packed
     }
 }
 
-// The half at `k` of a text; "an odd last low half is 15".
-fn half_at(text: &[u8], k: usize) -> u8
-    ensures { λ r. ⌜ r ≡ getD (halves (now (text .entry))) k 15 ⌝ }
+// The octet at `i` of the packed halves of a text, where the text has both of them.
+fn two_halves(text: &[u8], i: usize) -> u8
+    requires { ⌜ i < length (now text) / 2 ⌝ }
+    ensures { λ r. ⌜ r ≡ getD (pack (halves (now (text .entry)))) i 0 ⌝ }
 {
-    if k < text.len() { half_of(text[k]) } else { 15 }
+    pair(half_of(text[2 * i]), half_of(text[2 * i + 1]))
+}
+
+// Writes four octets of the packed halves of a text at a place, where those before it are written.
+fn pack_four(buf: &mut [u8], text: &[u8], at: usize)
+    requires { ⌜ Written (pack (halves (now text))) (now buf) (now buf) at × (at + 4 ≤ length (now text) / 2) ⌝ }
+    ensures { λ _. ⌜ Written (pack (halves (now (text .entry)))) (now (buf .entry)) (now (buf .exit)) (at + 4) ⌝ }
+{
+    let four = [
+        two_halves(text, at),
+        two_halves(text, at + 1),
+        two_halves(text, at + 2),
+        two_halves(text, at + 3),
+    ];
+    lay_at(buf, at, &four);
+}
+
+// Writes what is left of the packed halves of a text from a place on, where the octets before it are written; "an odd last
+// low half is 15".
+fn pack_rest(buf: &mut [u8], text: &[u8], at: usize)
+    requires { ⌜ Written (pack (halves (now text))) (now buf) (now buf) at × (at ≤ length (now text) / 2) ⌝ }
+    ensures { λ _. ⌜ now (buf .exit) ≡ over (pack (halves (now (text .entry)))) (now (buf .entry)) ⌝ }
+{
+    let pairs = text.len() / 2;
+    let mut i = at;
+    while i < pairs {
+        buf[i] = two_halves(text, i);
+        i += 1;
+    }
+    if 2 * i < text.len() {
+        buf[i] = pair(half_of(text[2 * i]), 15);
+    }
 }
 
 // Writes the halves of `text`, two to an octet, over the start of `buf`.
@@ -335,12 +422,13 @@ fn pack_text(buf: &mut [u8], text: &[u8])
     requires { ⌜ packedLength (length (now text)) ≤ length (now buf) ⌝ }
     ensures { λ _. ⌜ now (buf .exit) ≡ over (pack (halves (now (text .entry)))) (now (buf .entry)) ⌝ }
 {
-    let len = packed_len(text.len());
+    let pairs = text.len() / 2;
     let mut i: usize = 0;
-    while i < len {
-        buf[i] = pair(half_at(text, 2 * i), half_at(text, 2 * i + 1));
-        i += 1;
+    while 4 <= pairs - i {
+        pack_four(buf, text, i);
+        i += 4;
     }
+    pack_rest(buf, text, i);
 }
 
 // Writes the halves of `text`, two to an octet, over `buf` from the place `at` on and says true, if they fit; else changes

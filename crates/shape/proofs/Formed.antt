@@ -1,49 +1,62 @@
 -- What the form of a value says of the value and of what is stored of it. Assumes nothing.
 use mathlib.Core.Path.{_≡_, refl, sym, ap, _∙_}
 use mathlib.Core.Logic.{⊎-elim}
-use mathlib.Core.Bool.{Bool, true, false, cond, _&&_}
+use mathlib.Core.Bool.{Bool, true, false, cond, and-false}
 use mathlib.Core.List.{List, [], _∷_}
 use Prim.Native.Nat.{ℕ, _+_, _*_, _/_, _%_, _<_, _≤_}
 use native.Mathlib.Nat.{mod-eq-of-lt}
 use native.Mathlib.Omega.{arith}
 use lib.Dec.{T, eqb, leb, eqb→eq, leb→le}
 use borrow.Author.Tests.{lt-leb, le-leb}
-use lib.ListN.{length, take, drop, getD}
-use Rattle.meaning.specs.Octets.{between, all, same, isDigit, isHex, digitValue, values, pack}
+use lib.ListN.{length, drop, getD}
+use Rattle.meaning.specs.Octets.{between, all, isDigit, isHex, digitValue, values, pack}
 use Rattle.meaning.specs.Framing.{isPlain}
 use Rattle.meaning.specs.Shapes.{Shape, number, address, digits, hexadecimal, qos, hexDigit, anyOctet, decimalDigit, atLeast, exactly, blocks, free, shapeOf, release, meets}
 use Rattle.meaning.specs.Sheet.{formOf, storedOf, decodes, form, stored}
 use Rattle.meaning.proofs.Tests.{parts, either}
 use Rattle.meaning.proofs.Packing.{Hexes, digits-hexes, values-halves}
-use Rattle.meaning.proofs.Forms.{either-way}
+use Rattle.meaning.proofs.Forms.{released, either-way}
 use Rattle.shape.specs.Codes.{codeOf, shapeBy}
 use Rattle.shape.proofs.Codes.{shape-back, form-in-code, fifteen, at-most-fifteen}
 
+-- ---- The form, by the shape
+
+module _ (n : ℕ) (v : List ℕ) (s : Shape) (is : shapeOf n ≡ s) where
+  pub form-own : 2 ≤ formOf s → meets s v ≡ true → form n v ≡ formOf s
+  unfolding form decodes
+  form-own h m = rw (is, le-leb 2 (formOf s) h, m)
+
+  pub form-raw : meets s v ≡ false → form n v ≡ cond (isPlain n) 0 1
+  unfolding form decodes
+  form-raw m = rw (is, m, and-false (leb 2 (formOf s)))
+
 -- ---- The form, by the code
 
-module _ (n : ℕ) (v : List ℕ) (code : ℕ) (is : code ≡ codeOf (shapeOf n)) where
-  own : code / 10 ≡ formOf (shapeOf n)
-  own = ap (λ (c : ℕ). c / 10) is ∙ form-in-code (shapeOf n)
+module _ (n code : ℕ) (is : code ≡ codeOf (shapeOf n)) where
+  -- the tens of a number's code are its form
+  pub own-form : code / 10 ≡ formOf (shapeOf n)
+  own-form = ap (λ (c : ℕ). c / 10) is ∙ form-in-code (shapeOf n)
 
   -- the shape of a number's code is the number's
   pub code-shape : shapeBy code ≡ shapeOf n
   code-shape = ap shapeBy is ∙ shape-back n
 
+  -- an arm of a match on the code has the shape of its key
+  pub arm-shape : (key : ℕ) → code ≡ key → shapeOf n ≡ shapeBy key
+  arm-shape key e = sym code-shape ∙ ap shapeBy e
+
+module _ (n : ℕ) (v : List ℕ) (code : ℕ) (is : code ≡ codeOf (shapeOf n)) where
   pub form-without : code / 10 < 2 → form n v ≡ cond (isPlain n) 0 1
   unfolding form decodes
-  form-without h = rw (lt-leb 2 (formOf (shapeOf n)) (omega (arith, own)))
+  form-without h = rw (lt-leb 2 (formOf (shapeOf n)) (omega (arith, own-form n code is)))
 
   pub form-missed : meets (shapeBy code) v ≡ false → form n v ≡ cond (isPlain n) 0 1
-  unfolding form decodes
-  form-missed m = go (leb 2 (formOf (shapeOf n)))
-    where
-      go : (b : Bool) → cond (b && meets (shapeOf n) v) (formOf (shapeOf n)) (cond (isPlain n) 0 1) ≡ cond (isPlain n) 0 1
-      go true = rw (sym (ap (λ (s : Shape). meets s v) code-shape) ∙ m)
-      go false = refl
+  form-missed = form-raw n v (shapeBy code) (sym (code-shape n code is))
 
   pub form-met : 2 ≤ code / 10 → meets (shapeBy code) v ≡ true → form n v ≡ code / 10
-  unfolding form decodes
-  form-met h m = rw (le-leb 2 (formOf (shapeOf n)) (omega (arith, own)), sym (ap (λ (s : Shape). meets s v) code-shape) ∙ m) (sym own)
+  form-met h m =
+      rw (own-form n code is)
+      (form-own n v (shapeOf n) refl (omega (arith, own-form n code is)) (rw (code-shape n code is) at m))
 
 -- ---- What a form says
 
@@ -92,9 +105,7 @@ Formed c f v s =
 
 profile : (a b n : ℕ) (v : List ℕ) → T (release a b n v) → Profile v (storedOf qos v)
 unfolding storedOf
-profile a b n v t =
-    let u = parts (eqb (length v) (3 + n)) (all isHex (drop 3 v)) (parts (same (take 3 v) (a ∷ b ∷ 45 ∷ [])) _ t .1) in
-    record { long = omega (arith, eqb→eq (length v) (3 + n) (u .0)); hexes = u .1; packed = refl }
+profile a b n v t = let r = released a b n v t in record { long = omega (arith, r .long); hexes = r .hexes; packed = refl }
 
 low-digit : (v : List ℕ) → length v ≡ 1 → Hexes v → values v ≡ (digitValue (getD v 0 0) % 16) ∷ []
 unfolding values

@@ -1,89 +1,158 @@
--- The item of a value, by its form: what is made in each form is the item that is meant. Assumes nothing.
-use mathlib.Core.Path.{_≡_, refl, sym, ap, _∙_}
-use mathlib.Core.Bool.{false, cond}
-use mathlib.Core.List.{List}
-use Prim.Native.Nat.{ℕ, _+_, _-_, _%_, _<_, _≤_}
+-- The item of a value, by the shape of its number: what is made where the value meets the shape, and where it misses it, is the item
+-- that is meant. Assumes nothing.
+use mathlib.Core.Path.{_≡_, refl, sym, ap, subst, _∙_}
+use mathlib.Core.Bool.{Bool, true, false, cond}
+use mathlib.Core.List.{List, map}
+use Prim.Native.Nat.{ℕ, _+_, _-_, _/_, _%_, _<_, _≤_}
 use native.Mathlib.Omega.{arith}
-use lib.Dec.{eqb}
-use borrow.Author.Tests.{ne-eqb}
+use lib.Dec.{T, eqb, leb, eqb→eq, leb→le}
+use borrow.Author.Tests.{eq-eqb, le-leb}
 use lib.ListN.{length, drop, getD, length-drop}
-use Rattle.meaning.specs.Octets.{numberOf, digitValue, values, pack, packedLength}
-use Rattle.meaning.specs.Shapes.{shapeOf}
-use Rattle.meaning.specs.Sheet.{form, count, stored}
+use Rattle.meaning.specs.Octets.{all, isHex, numberOf, digitValue, values, pack, packedLength}
+use Rattle.meaning.specs.Framing.{isPlain}
+use Rattle.meaning.specs.Shapes.{Shape, number, address, digits, hexadecimal, qos, shapeOf, meets}
+use Rattle.meaning.specs.Sheet.{formOf, form, count, stored}
+use Rattle.meaning.proofs.Tests.{parts, passes}
 use Rattle.meaning.proofs.Packing.{pack-length, values-length}
+use Rattle.meaning.proofs.Forms.{raw-not-4}
 use Rattle.octets.specs.declared.Got.{Got}
 use Rattle.octets.specs.Parts.{partOf}
 use Rattle.octets.specs.DigitStrings.{gotOf}
 use Rattle.octets.proofs.Parts.{part-rest}
-use Rattle.octets.proofs.DigitStrings.{got-digits}
+use Rattle.octets.proofs.DigitStrings.{got-ok, got-digits}
 use Rattle.area.specs.declared.Part.{Part}
 use Rattle.shape.specs.declared.Value.{Value}
 use Rattle.shape.specs.declared.Value.the-variants as is
 use Rattle.shape.specs.declared.Item.{Item}
-use Rattle.shape.specs.Codes.{codeOf}
-use Rattle.shape.specs.Items.{valueBy, digitsBy, undigited, itemFor, itemAt}
-use Rattle.shape.proofs.Formed.{Formed, formed-as}
+use Rattle.shape.specs.Codes.{codeOf, shapeBy}
+use Rattle.shape.specs.Items.{valueBy, digitsBy, undigited, rawItem, itemFor, itemAt}
+use Rattle.shape.proofs.Codes.{fifteen, at-most-fifteen, Past, ownForms, no-form}
+use Rattle.shape.proofs.Meeting.{digits-all}
+use Rattle.shape.proofs.Formed.{One, Formed, formed-as, form-own, form-raw, own-form, code-shape, form-without, form-missed, form-met}
 
 packed-values : (v : List ℕ) → length (pack (values v)) ≡ packedLength (length v)
 packed-values v = pack-length (values v) ∙ ap packedLength (values-length v)
 
--- f is the form of the octets v, which are the part p of the area
-module _ (area : List ℕ) (n : ℕ) (p : Part) (v : List ℕ) (part-is : v ≡ partOf area (p .start) (p .len)) (f : ℕ) (form-is : f ≡ form n v) where
-  says : (k : ℕ) → f ≡ k → Formed (codeOf (shapeOf n)) k v (stored n v)
-  says k e = formed-as n v k (sym form-is ∙ e)
+-- a value that stands as it is is stored so
+stored-raw : (b : Bool) (c : ℕ) (v s : List ℕ) → Formed c (cond b 0 1) v s → s ≡ v
+stored-raw true c v s e = e
+stored-raw false c v s e = e
 
-  -- an item without digits, made of its count and its value
-  undigited-is : (c : ℕ) (x : Value) → eqb f 4 ≡ false → c ≡ length (stored n v) → x ≡ valueBy f v (stored n v) p → undigited n f c x ≡ itemAt area n p
-  unfolding undigited itemAt itemFor count digitsBy
-  undigited-is c x e cs xs = rw (← part-is, ← form-is, e, cs, xs)
+raw-value : (b : Bool) (v s : List ℕ) (p : Part) → is.Plain p ≡ valueBy (cond b 0 1) v s p
+unfolding valueBy
+raw-value true v s p = refl
+raw-value false v s p = refl
 
-  pub item-number : f ≡ 2 → (x : ℕ) → x ≡ numberOf (partOf v 0 4) → undigited n f 4 (is.Number x) ≡ itemAt area n p
-  unfolding valueBy
-  item-number e x xs =
-      let s = says 2 e in
-      undigited-is 4 (is.Number x) (rw e) (sym (ap length (s .kept) ∙ s .long))
-      (rw e (ap is.Number (xs ∙ ap numberOf (part-rest v 0 4 (omega (arith, s .long))))))
+-- v are the octets of the part p
+module _ (n : ℕ) (v : List ℕ) (p : Part) where
+  -- an item without digits, made of its form, its count and its value
+  undigited-is : (f c : ℕ) (x : Value) → form n v ≡ f → eqb f 4 ≡ false → length (stored n v) ≡ c → x ≡ valueBy f v (stored n v) p → undigited n f c x ≡ itemFor n v p
+  unfolding undigited itemFor count digitsBy
+  undigited-is f c x fs e cs xs = rw (fs, e, cs, xs)
 
-  pub item-address : f ≡ 3 → (x : ℕ) → x ≡ numberOf (partOf v 0 4) → undigited n f 4 (is.Address x) ≡ itemAt area n p
-  unfolding valueBy
-  item-address e x xs =
-      let s = says 3 e in
-      undigited-is 4 (is.Address x) (rw e) (sym (ap length (s .kept) ∙ s .long))
-      (rw e (ap is.Address (xs ∙ ap numberOf (part-rest v 0 4 (omega (arith, s .long))))))
+  -- a value that is in no form of its own
+  pub raw-is : form n v ≡ cond (isPlain n) 0 1 → rawItem n (length v) p ≡ itemFor n v p
+  unfolding rawItem
+  raw-is e =
+      undigited-is (cond (isPlain n) 0 1) (length v) (is.Plain p) e (raw-not-4 (isPlain n))
+      (ap length (stored-raw (isPlain n) (codeOf (shapeOf n)) v (stored n v) (formed-as n v (cond (isPlain n) 0 1) e)))
+      (raw-value (isPlain n) v (stored n v) p)
 
-  pub item-digits : f ≡ 4 → (got : Got) → got ≡ gotOf v → _≡_ {A = Item} (record { number = n; form = f; count = length v; value = is.Digits; digits = got .digits }) (itemAt area n p)
-  unfolding itemAt itemFor count valueBy digitsBy
-  item-digits e got gs =
-      let s = says 4 e in
-      rw (← part-is, ← form-is, e, gs, got-digits v (s .some) (s .few) (s .decimal))
+  -- a value that misses the shape
+  pub missed : (s : Shape) → shapeOf n ≡ s → meets s v ≡ false → rawItem n (length v) p ≡ itemFor n v p
+  missed s e m = raw-is (form-raw n v s e m)
 
-  pub item-hexadecimal : f ≡ 5 → (k : ℕ) → k ≡ packedLength (length v) → undigited n f k (is.Plain p) ≡ itemAt area n p
-  unfolding valueBy
-  item-hexadecimal e k ks =
-      undigited-is k (is.Plain p) (rw e) (ks ∙ sym (ap length (says 5 e .packed) ∙ packed-values v)) (rw e)
+  -- ---- Numbers and addresses
 
-  pub item-qos : f ≡ 6 → (k : ℕ) → k ≡ packedLength (length v - 3) → undigited n f (1 + k) (is.Plain p) ≡ itemAt area n p
-  unfolding valueBy
-  item-qos e k ks =
-      undigited-is (1 + k) (is.Plain p) (rw e)
-      (omega (arith, ks, ap length (says 6 e .packed), packed-values (drop 3 v), length-drop 3 v)) (rw e)
+  pub item-number : shapeOf n ≡ number → length v ≡ 4 → (x : ℕ) → x ≡ numberOf (partOf v 0 4) → undigited n 2 4 (is.Number x) ≡ itemFor n v p
+  unfolding valueBy formOf meets
+  item-number e l x xs =
+      let f : form n v ≡ 2 = form-own n v number e (omega arith) (eq-eqb (length v) 4 l) in
+      undigited-is 2 4 (is.Number x) f refl (ap length (formed-as n v 2 f .kept) ∙ l)
+      (ap is.Number (xs ∙ ap numberOf (part-rest v 0 4 (omega arith))))
 
-  pub item-octet : f ≡ 7 → (x : ℕ) → x ≡ cond (eqb (codeOf (shapeOf n)) 71) (getD v 0 0) (digitValue (getD v 0 0) % 16) → undigited n f 1 (is.Number x) ≡ itemAt area n p
-  unfolding valueBy numberOf
-  item-octet e x xs =
-      let s = says 7 e in
-      undigited-is 1 (is.Number x) (rw e) (sym (ap length (s .octet))) (rw (e, s .octet) (ap is.Number (omega (arith, xs))))
+  pub item-address : shapeOf n ≡ address → length v ≡ 4 → (x : ℕ) → x ≡ numberOf (partOf v 0 4) → undigited n 3 4 (is.Address x) ≡ itemFor n v p
+  unfolding valueBy formOf meets
+  item-address e l x xs =
+      let f : form n v ≡ 3 = form-own n v address e (omega arith) (eq-eqb (length v) 4 l) in
+      undigited-is 3 4 (is.Address x) f refl (ap length (formed-as n v 3 f .kept) ∙ l)
+      (ap is.Address (xs ∙ ap numberOf (part-rest v 0 4 (omega arith))))
 
-  pub item-plain : (f ≡ 2 → ⊥) → (f ≡ 3 → ⊥) → (f ≡ 4 → ⊥) → (f ≡ 5 → ⊥) → (f ≡ 6 → ⊥) → (f ≡ 7 → ⊥) → undigited n f (length v) (is.Plain p) ≡ itemAt area n p
-  unfolding valueBy
-  item-plain a b c d g h =
-      let s : Formed (codeOf (shapeOf n)) f v (stored n v) = says f refl in
-      let kept : stored n v ≡ v = simp (ne-eqb f 2 a, ne-eqb f 3 b, ne-eqb f 4 c, ne-eqb f 5 d, ne-eqb f 6 g, ne-eqb f 7 h) at s in
-      undigited-is (length v) (is.Plain p) (ne-eqb f 4 c) (sym (ap length kept)) (simp (ne-eqb f 2 a, ne-eqb f 3 b, ne-eqb f 4 c, ne-eqb f 7 h))
+  -- ---- Digits
 
-  -- a QoS profile has its release, a value of form 7 its octet
-  pub release-there : f ≡ 6 → 3 ≤ length v
-  release-there e = says 6 e .long
+  module _ (a b : ℕ) (shape-is : shapeOf n ≡ digits a b) (some : a ≤ length v) (few : length v ≤ b) (got : Got) (got-is : got ≡ gotOf v) where
+    -- what is got of so many octets tells whether they meet the shape
+    got-met : got .ok ≡ meets (digits a b) v
+    got-met =
+        let d : T (fifteen (digits a b)) = subst (λ (s : Shape). T (fifteen s)) shape-is (at-most-fifteen n) in
+        let h = parts (leb 1 a) (leb b 15) d in
+        let low : 1 ≤ length v = omega (arith, leb→le 1 a (h .0)) in
+        let high : length v ≤ 15 = omega (arith, leb→le b 15 (h .1)) in
+        ap (λ (g : Got). g .ok) got-is ∙ got-ok v ∙ rw (le-leb 1 (length v) low, le-leb (length v) 15 high) (digits-all v a b some few)
 
-  pub octet-there : f ≡ 7 → 0 < length v
-  octet-there e = omega (arith, says 7 e .long)
+    pub digits-missed : got .ok ≡ false → rawItem n (length v) p ≡ itemFor n v p
+    digits-missed e = missed (digits a b) shape-is (sym got-met ∙ e)
+
+    pub item-digits : got .ok ≡ true → _≡_ {A = Item} (record { number = n; form = 4; count = length v; value = is.Digits; digits = got .digits }) (itemFor n v p)
+    unfolding itemFor count valueBy digitsBy formOf
+    item-digits e =
+        let f : form n v ≡ 4 = form-own n v (digits a b) shape-is (omega arith) (sym got-met ∙ e) in
+        let s = formed-as n v 4 f in
+        rw (f, got-is, got-digits v (s .some) (s .few) (s .decimal))
+
+  -- ---- Text
+
+  pub item-hexadecimal : shapeOf n ≡ hexadecimal → meets hexadecimal v ≡ true → undigited n 5 8 (is.Plain p) ≡ itemFor n v p
+  unfolding valueBy formOf meets
+  item-hexadecimal e m =
+      let f : form n v ≡ 5 = form-own n v hexadecimal e (omega arith) m in
+      let l : length v ≡ 16 = eqb→eq (length v) 16 (parts (eqb (length v) 16) (all isHex v) (passes _ m) .0) in
+      undigited-is 5 8 (is.Plain p) f refl (ap length (formed-as n v 5 f .packed) ∙ packed-values v ∙ ap packedLength l) refl
+
+  module _ (shape-is : shapeOf n ≡ qos) (met : meets qos v ≡ true) where
+    profiled : form n v ≡ 6
+    unfolding formOf
+    profiled = form-own n v qos shape-is (omega arith) met
+
+    -- a QoS profile has its release
+    pub release-there : 3 ≤ length v
+    release-there = formed-as n v 6 profiled .long
+
+    pub item-qos : (k : ℕ) → k ≡ packedLength (length v - 3) → undigited n 6 (1 + k) (is.Plain p) ≡ itemFor n v p
+    unfolding valueBy
+    item-qos k ks =
+        undigited-is 6 (1 + k) (is.Plain p) profiled refl
+        (omega (arith, ks, ap length (formed-as n v 6 profiled .packed), packed-values (drop 3 v), length-drop 3 v)) refl
+
+  -- ---- One octet
+
+  module _ (code : ℕ) (code-is : code ≡ codeOf (shapeOf n)) (one : code / 10 ≡ 7) where
+    pub octet-missed : meets (shapeBy code) v ≡ false → rawItem n (length v) p ≡ itemFor n v p
+    octet-missed m = raw-is (form-missed n v code code-is m)
+
+    module _ (met : meets (shapeBy code) v ≡ true) where
+      single : form n v ≡ 7
+      single = form-met n v code code-is (omega arith) met ∙ one
+
+      told : One code v (stored n v)
+      told = rw code-is (formed-as n v 7 single)
+
+      pub octet-there : 0 < length v
+      octet-there = omega (arith, told .long)
+
+      pub item-octet : (x : ℕ) → x ≡ cond (eqb code 71) (getD v 0 0) (digitValue (getD v 0 0) % 16) → undigited n 7 1 (is.Number x) ≡ itemFor n v p
+      unfolding valueBy numberOf
+      item-octet x xs =
+          undigited-is 7 1 (is.Number x) single refl (ap length (told .octet)) (rw (told .octet) (ap is.Number (omega (arith, xs))))
+
+-- the octets v are the part p of the area
+module _ (area : List ℕ) (n : ℕ) (p : Part) (v : List ℕ) (part-is : v ≡ partOf area (p .start) (p .len)) where
+  pub item-there : itemFor n v p ≡ itemAt area n p
+  unfolding itemAt
+  item-there = rw part-is
+
+  -- a number whose code no arm has
+  pub item-raw : (code : ℕ) → code ≡ codeOf (shapeOf n) → Past (Unit {0}) code (map codeOf ownForms) → rawItem n (length v) p ≡ itemAt area n p
+  item-raw code code-is w =
+      let none : formOf (shapeOf n) ≡ 0 = rw (code-shape n code code-is) at (no-form code w) in
+      raw-is n v p (form-without n v code code-is (omega (arith, none, own-form n code code-is))) ∙ item-there

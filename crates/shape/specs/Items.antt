@@ -6,6 +6,7 @@ use mathlib.Core.List.{List, [], _∷_}
 use lib.Dec.{eqb}
 use lib.ListN.{take, drop, getD}
 use Rattle.meaning.specs.Octets.{numberOf, octetsOf, pack, digitValue, values}
+use Rattle.meaning.specs.Framing.{isPlain}
 use Rattle.meaning.specs.Sheet.{form, count, stored}
 use Rattle.octets.specs.declared.Digits.{Digits}
 use Rattle.octets.specs.Parts.{partOf}
@@ -30,6 +31,10 @@ digitsBy f v = cond (eqb f 4) (digitsOf (values v)) (digitsOf [])
 -- an item that has no digits
 unfoldable pub undigited : (number form count : ℕ) → Value → Item
 undigited n f c x = record { number = n; form = f; count = c; value = x; digits = digitsOf [] }
+
+-- the item of a value that stands as it is, in "form 0 (plain) or 1 (3GPP)"
+unfoldable pub rawItem : (number count : ℕ) → Part → Item
+rawItem n c p = undigited n (cond (isPlain n) 0 1) c (is.Plain p)
 
 -- the item of a carried number with the octets v, which are the part p of the area
 unfoldable pub itemFor : (number : ℕ) → List ℕ → Part → Item

@@ -2,7 +2,7 @@
 // the sheet that the attribute gives. Each public function takes any arguments.
 ghost use mathlib.Core.Path.{_≡_};
 ghost use mathlib.Core.Bool.{cond, _&&_};
-ghost use Prim.Native.Nat.{_%_, _<_};
+ghost use Prim.Native.Nat.{_/_, _%_, _<_};
 ghost use lib.Dec.{eqb};
 ghost use lib.ListN.{length};
 ghost use Rattle.meaning.specs.Octets.{all, isHex, digitValue};
@@ -11,7 +11,7 @@ ghost use Rattle.meaning.specs.Shapes as meant;
 ghost use Rattle.meaning.specs.Framing.{isPlain};
 ghost use Rattle.meaning.specs.Sheet.{form, storedLength};
 ghost use Rattle.shape.specs.Codes.{codeOf, shapeBy, isNumber, isAddress, isText, isGppNumber, isGppAddress, isNetworkCode};
-ghost use Rattle.shape.specs.Items.{undigited, itemAt};
+ghost use Rattle.shape.specs.Items.{undigited, rawItem, itemFor, itemAt};
 
 // "An item's value is either a number, an address, digits or plain octets": plain octets as a part of the area; the digits stand
 // beside it.
@@ -265,10 +265,10 @@ pub fn form_of(number: u16, value: &[u8]) -> u8
 }
 
 // The octet that form 7 stores: any octet as it stands, or what a digit stands for.
-fn octet_of(number: u16, x: u8) -> u32
-    ensures { λ r. ⌜ r ≡ cond (eqb (codeOf (shapeOf number)) 71) x (digitValue x % 16) ⌝ }
+fn octet_of(code: u8, x: u8) -> u32
+    ensures { λ r. ⌜ r ≡ cond (eqb code 71) x (digitValue x % 16) ⌝ }
 {
-    if code_of(number) == 71 {
+    if code == 71 {
         x as u32
     } else {
         octets::half_of(x) as u32
@@ -292,41 +292,124 @@ fn undigited_item(number: u16, form: u8, count: usize, value: Value) -> Item
     }
 }
 
+// The item of a value as it stands, of `count` octets.
+fn raw_item(number: u16, count: usize, value: area::Part) -> Item
+    ensures { λ r. ⌜ r ≡ rawItem number count value ⌝ }
+{
+    undigited_item(number, plain_form(number), count, Value::Plain(value))
+}
+
+// The item of a number whose shape is a number. Here and below `v` are the octets of the part `value`.
+fn number_item(number: u16, v: &[u8], value: area::Part) -> Item
+    requires { ⌜ shapeOf number ≡ meant.number ⌝ }
+    ensures { λ r. ⌜ r ≡ itemFor number (now (v .entry)) value ⌝ }
+{
+    if v.len() != 4 {
+        return raw_item(number, v.len(), value);
+    }
+    undigited_item(number, 2, 4, Value::Number(octets::u32_at(v, 0)))
+}
+
+// The item of a number whose shape is an address.
+fn address_item(number: u16, v: &[u8], value: area::Part) -> Item
+    requires { ⌜ shapeOf number ≡ meant.address ⌝ }
+    ensures { λ r. ⌜ r ≡ itemFor number (now (v .entry)) value ⌝ }
+{
+    if v.len() != 4 {
+        return raw_item(number, v.len(), value);
+    }
+    undigited_item(number, 3, 4, Value::Address(octets::u32_at(v, 0)))
+}
+
+// The item of a number whose shape is `least` to `most` digits. Each digit is tested once, where it is taken.
+fn digits_item(number: u16, v: &[u8], value: area::Part, least: usize, most: usize) -> Item
+    requires { ⌜ shapeOf number ≡ digits least most ⌝ }
+    ensures { λ r. ⌜ r ≡ itemFor number (now (v .entry)) value ⌝ }
+{
+    if v.len() < least {
+        return raw_item(number, v.len(), value);
+    }
+    if most < v.len() {
+        return raw_item(number, v.len(), value);
+    }
+    let got = octets::digits_of(v);
+    if !got.ok {
+        return raw_item(number, v.len(), value);
+    }
+    let digits = got.digits;
+    Item {
+        number,
+        form: 4,
+        count: v.len(),
+        value: Value::Digits,
+        digits,
+    }
+}
+
+// The item of a number whose shape is hexadecimal text.
+fn hex_item(number: u16, v: &[u8], value: area::Part) -> Item
+    requires { ⌜ shapeOf number ≡ meant.hexadecimal ⌝ }
+    ensures { λ r. ⌜ r ≡ itemFor number (now (v .entry)) value ⌝ }
+{
+    if !meets_hex(v, 16) {
+        return raw_item(number, v.len(), value);
+    }
+    undigited_item(number, 5, 8, Value::Plain(value))
+}
+
+// The item of a number whose shape is a QoS profile.
+fn qos_item(number: u16, v: &[u8], value: area::Part) -> Item
+    requires { ⌜ shapeOf number ≡ qos ⌝ }
+    ensures { λ r. ⌜ r ≡ itemFor number (now (v .entry)) value ⌝ }
+{
+    if !meets_qos(v) {
+        return raw_item(number, v.len(), value);
+    }
+    undigited_item(
+        number,
+        6,
+        1 + octets::packed_len(v.len() - 3),
+        Value::Plain(value),
+    )
+}
+
+// The item of a number whose shape is one octet: any, or a digit.
+fn octet_item(code: u8, number: u16, v: &[u8], value: area::Part) -> Item
+    requires { ⌜ (code ≡ codeOf (shapeOf number)) × (code / 10 ≡ 7) ⌝ }
+    ensures { λ r. ⌜ r ≡ itemFor number (now (v .entry)) value ⌝ }
+{
+    if !meets_code(code, v) {
+        return raw_item(number, v.len(), value);
+    }
+    undigited_item(number, 7, 1, Value::Number(octet_of(code, v[0])))
+}
+
 // The item of a carried number whose value is a part of an area, or as much of the part as the area has.
 pub fn item_of(area: &[u8], number: u16, value: area::Part) -> Item
     ensures { λ r. ⌜ r ≡ itemAt (now (area .entry)) number value ⌝ }
 {
     let v = octets::part(area, value.start, value.len);
-    let form = form_of(number, v);
-    let plain = Value::Plain(value);
-    match form {
-        2 => undigited_item(number, form, 4, Value::Number(octets::u32_at(v, 0))),
-        3 => undigited_item(number, form, 4, Value::Address(octets::u32_at(v, 0))),
-        4 => {
-            let got = octets::digits_of(v);
-            let digits = got.digits;
-            Item {
-                number,
-                form,
-                count: v.len(),
-                value: Value::Digits,
-                digits,
-            }
-        }
-        5 => undigited_item(number, form, octets::packed_len(v.len()), plain),
-        6 => undigited_item(number, form, 1 + octets::packed_len(v.len() - 3), plain),
-        7 => undigited_item(number, form, 1, Value::Number(octet_of(number, v[0]))),
-        _ => undigited_item(number, form, v.len(), plain),
+    match code_of(number) {
+        20 => number_item(number, v, value),
+        30 => address_item(number, v, value),
+        40 => digits_item(number, v, value, 1, 15),
+        41 => digits_item(number, v, value, 5, 6),
+        50 => hex_item(number, v, value),
+        60 => qos_item(number, v, value),
+        70 => octet_item(70, number, v, value),
+        71 => octet_item(71, number, v, value),
+        72 => octet_item(72, number, v, value),
+        _ => raw_item(number, v.len(), value),
     }
 }
 
-// The octets that an item stores.
-pub fn stored_len(item: Item) -> usize
-    ensures { λ r. ⌜ r ≡ storedLength (item .form) (item .count) ⌝ }
+// "Stored octets are count, except form 4: half the count, rounded up".
+pub fn stored_len(form: u8, count: usize) -> usize
+    ensures { λ r. ⌜ r ≡ storedLength form count ⌝ }
 {
-    if item.form == 4 {
-        octets::packed_len(item.count)
+    if form == 4 {
+        octets::packed_len(count)
     } else {
-        item.count
+        count
     }
 }

@@ -1,10 +1,9 @@
 -- The whole sheet: its head and its items one behind the other, and what reading answers. Assumes nothing.
-use mathlib.Core.Path.{_≡_, refl, sym, ap, subst, _∙_}
+use mathlib.Core.Path.{_≡_, refl, sym, ap, _∙_}
 use mathlib.Core.Bool.{true, false}
 use mathlib.Core.List.{List, _++_}
 use Prim.Native.Nat.{ℕ, _+_, _-_, _*_, _≤_, _<_}
 use native.Mathlib.Omega.{arith}
-use lib.Dec.{T}
 use lib.ListN.{length, take, drop, length-append}
 use borrow.Author.Tests.{lt-ltb, le-ltb, le-leb}
 use borrow.Rule.Slice.PartMut.{putMid}
@@ -26,9 +25,6 @@ use Rattle.sheet.specs.declared.Reading.{Reading}
 use Rattle.sheet.specs.declared.Reading.the-variants.{Sheet, Refused}
 use Rattle.sheet.specs.Items.{sheetHead, itemsIn, filledBy, Sound, Admitted}
 use Rattle.sheet.specs.Answers.{Read}
-
-pub false-not-true : {X : Type 0} → false ≡ true → X
-false-not-true e = absurd (subst T (sym e) tt)
 
 -- a sheet is its head and its items
 sheet-parts : (kind flags count : ℕ) (area : List ℕ) → count ≡ length (attributes (walk area)) → sheetOf kind flags area ≡ sheetHead kind flags count ++ itemsIn area

@@ -149,7 +149,7 @@ fn pass(area: &[u8], buf: &mut [u8], fill: bool) -> usize
         let value = carried.value;
         let item = shape::item_of(area, carried.number, value);
         put_item(buf, written, area, item, fill);
-        written += 4 + shape::stored_len(item);
+        written += 4 + shape::stored_len(item.form, item.count);
         place = carried.next;
     }
     written

@@ -18,7 +18,8 @@ use Rattle.octets.specs.Parts.{partOf}
 use Rattle.item.specs.Stands.{standsFor}
 use Rattle.item.specs.Answers.{enteredAt}
 use Rattle.item.proofs.Entering.{found-item}
-use Rattle.writing.specs.Attributes.{headLength, valueLength, valueAs, attributeHead, Written}
+use Rattle.area.specs.Answers.{headLength}
+use Rattle.writing.specs.Attributes.{valueLength, valueAs, attributeHead, Written}
 use Rattle.writing.proofs.Values.{shown}
 
 -- ---- An attribute by its head and its value

@@ -17,7 +17,8 @@ use Rattle.item.specs.declared.Entered.the-variants.{Item, Refused}
 use Rattle.item.specs.Answers.{enteredAt, enteredOf}
 use Rattle.item.proofs.Entering.{AnItem, an-item, a-refusal}
 use Rattle.writing.specs.declared.Judged.the-variants.{Items, Broken}
-use Rattle.writing.specs.Attributes.{headLength, valueLength}
+use Rattle.area.specs.Answers.{headLength}
+use Rattle.writing.specs.Attributes.{valueLength}
 use Rattle.writing.specs.Answers.{judgedOf}
 use Rattle.writing.proofs.Entries.{Entry, entry-at, entry-long}
 use Rattle.writing.proofs.Walking.{itemsAt, items-start, items-enter, items-refuse, items-end, items-remain}

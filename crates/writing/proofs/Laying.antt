@@ -15,7 +15,8 @@ use Rattle.meaning.proofs.RoundTrip.{no-refusal}
 use Rattle.octets.specs.Parts.{partOf, laidAt}
 use Rattle.octets.proofs.Overs.{over-none, laid-behind}
 use Rattle.item.specs.Answers.{enteredAt}
-use Rattle.writing.specs.Attributes.{headLength, valueLength, valueAs, Written}
+use Rattle.area.specs.Answers.{headLength}
+use Rattle.writing.specs.Attributes.{valueLength, valueAs, Written}
 use Rattle.writing.specs.Answers as answers
 use Rattle.writing.proofs.Entries.{Entry, entry-at, entry-long}
 use Rattle.writing.proofs.Walking.{itemsAt, items-start, items-enter, items-refuse}

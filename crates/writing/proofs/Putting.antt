@@ -15,18 +15,11 @@ use Rattle.octets.specs.Parts.{laidAt}
 use Rattle.octets.proofs.Overs.{laid-two}
 use Rattle.shape.specs.Codes.{codeOf}
 use Rattle.item.proofs.Texts.{whole-length}
-use Rattle.writing.specs.Attributes.{headLength, valueLength, attributeHead, profileText, valueAs, Written}
+use Rattle.area.specs.Answers.{headLength}
+use Rattle.writing.specs.Attributes.{valueLength, attributeHead, profileText, valueAs, Written}
 use Rattle.writing.proofs.Entries.{attribute-parts, head-long}
 
 -- ---- Lengths
-
-pub plain-head-length : (n : ℕ) → n < 256 → 2 ≡ headLength n
-unfolding headLength
-plain-head-length n h = rw (lt-ltb n 256 h)
-
-pub gpp-head-length : (n : ℕ) → 256 ≤ n → 8 ≡ headLength n
-unfolding headLength
-gpp-head-length n h = rw (le-ltb n 256 h)
 
 -- an attribute's head has two octets at least
 pub head-two : (n : ℕ) → 2 ≤ headLength n

@@ -11,7 +11,7 @@ use lib.ListN.{length, getD}
 use Rattle.meaning.specs.Octets.{Octets, digitText, text, unpack}
 use Rattle.meaning.specs.Shapes.{Shape, number, address, digits, hexadecimal, qos, hexDigit, anyOctet, decimalDigit, atLeast, exactly, blocks, free, shapeOf}
 use Rattle.meaning.specs.Sheet.{subOf, formOf, valueOf, numberIn, valueIn, storedLength}
-use Rattle.meaning.proofs.Tests.{parts, either, is-true, passes}
+use Rattle.meaning.proofs.Tests.{parts, either, is-true, passes, not-both}
 use Rattle.meaning.proofs.Packing.{unpack-length}
 use Rattle.shape.specs.Codes.{codeOf}
 use Rattle.shape.proofs.Formed.{one-octet}
@@ -71,7 +71,7 @@ qos-long c (x ∷ r) h l =
 -- a shape without a form of its own stores nothing
 formless : (s : Shape) (c : ℕ) (st : List ℕ) → leb 2 (formOf s) ≡ false → held s c st ≡ true → ⊥
 unfolding held
-formless s c st e h = let f : false ≡ true = rw e at h in subst T (sym f) tt
+formless s c st e h = let f : false ≡ true = rw e at h in not-both (sym f)
 
 module _ (n c : ℕ) (st : List ℕ) (o : Octets st) where
   -- by the shape of the number

@@ -10,11 +10,8 @@ use Rattle.meaning.specs.Octets.{digitText, text, unpack}
 use Rattle.meaning.specs.Framing.{isPlain}
 use Rattle.meaning.specs.Shapes.{shapeOf}
 use Rattle.meaning.specs.Sheet.{storedLength}
+use Rattle.area.specs.Answers.{headLength}
 use Rattle.shape.specs.Codes.{codeOf}
-
--- the octets before an attribute's value
-unfoldable pub headLength : (number : ℕ) → ℕ
-headLength n = cond (isPlain n) 2 8
 
 -- the octets of the value that an item of this form and count stands for
 unfoldable pub valueLength : (form count : ℕ) → ℕ

@@ -12,8 +12,9 @@ ghost use Rattle.meaning.specs.Shapes.{shapeOf};
 ghost use Rattle.meaning.specs.Sheet.{attributeOctets, itemsIn, areaIn, marked};
 ghost use Rattle.meaning.specs.Answers.{over};
 ghost use Rattle.octets.specs.Parts.{laidAt};
+ghost use Rattle.area.specs.Answers.{headLength};
 ghost use Rattle.shape.specs.Codes.{codeOf};
-ghost use Rattle.writing.specs.Attributes.{headLength, valueLength, profileText, valueAs, attributeHead, Written};
+ghost use Rattle.writing.specs.Attributes.{valueLength, profileText, valueAs, attributeHead, Written};
 ghost use Rattle.writing.specs.Answers.{judgedOf, Accepted, Ready, Wrote};
 
 // What writing answers: the octets of the area that stands at the buffer's start, with the kind and flags of the sheet, or a refusal.
@@ -26,13 +27,6 @@ pub enum Writing {
 enum Judged {
     Items(usize),
     Broken(Refusal),
-}
-
-// The octets before an attribute's value.
-fn head_len(number: u16) -> usize
-    ensures { λ r. ⌜ r ≡ headLength number ⌝ }
-{
-    if number < 256 { 2 } else { 8 }
 }
 
 // The octets of the value that an item of this form and count stands for.
@@ -135,7 +129,14 @@ fn put_attribute(buf: &mut [u8], at: usize, number: u16, form: u8, count: u8, st
     ensures { λ _. ⌜ now (buf .exit) ≡ laidAt at (attributeOctets number (valueAs number form count (now (stored .entry)))) (now (buf .entry)) ⌝ }
 {
     put_head(buf, at, number, value_len(form, count));
-    put_value(buf, at + head_len(number), number, form, count, stored);
+    put_value(
+        buf,
+        at + area::head_len(number),
+        number,
+        form,
+        count,
+        stored,
+    );
 }
 
 // Whether octets begin with the mark and the version of a sheet and have its nine octets.
@@ -165,7 +166,7 @@ fn judge(sheet: &[u8]) -> Judged
                 count,
                 next,
             } => {
-                needed += head_len(number) + value_len(form, count);
+                needed += area::head_len(number) + value_len(form, count);
                 place = next;
                 left -= 1;
             }
@@ -195,7 +196,7 @@ fn lay(sheet: &[u8], area: &mut [u8])
         let form = sheet[place + 2];
         let count = sheet[place + 3];
         let number = item::number_in(sheet[place], sheet[place + 1], form);
-        let size = item::stored_len(form, count);
+        let size = shape::stored_len(form, count as usize);
         put_attribute(
             area,
             written,
@@ -204,7 +205,7 @@ fn lay(sheet: &[u8], area: &mut [u8])
             count,
             octets::part(sheet, place + 4, size),
         );
-        written += head_len(number) + value_len(form, count);
+        written += area::head_len(number) + value_len(form, count);
         place += 4 + size;
         left -= 1;
     }

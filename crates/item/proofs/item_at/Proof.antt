@@ -35,6 +35,9 @@ add-count c = search needs
 shared-slice-read-count : tie.Need-shared-slice-read-count
 shared-slice-read-count c = search needs
 
+cast-stored-len : tie.Need-cast-stored-len
+cast-stored-len c = omega (arith, c .shared-slice-known3 .given (c .before .before .before .before .before .args .place + 3))
+
 stored-len-requires : tie.Need-stored-len-requires
 stored-len-requires c κs = search needs
 
@@ -96,6 +99,7 @@ item-at-spec =
     shared-slice-read-form
     add-count
     shared-slice-read-count
+    cast-stored-len
     stored-len-requires
     add-size
     refused-requires-3

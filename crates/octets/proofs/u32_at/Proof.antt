@@ -1,4 +1,4 @@
--- The number of the part of 4 octets, which fits the width. Assumes nothing.
+-- The number of the four octets where they are there, else that of the part, which fits the width. Assumes nothing.
 use borrow.Author.Needs.{needs}
 use mathlib.Core.Path.{ap, _∙_}
 use native.Mathlib.Omega.{arith}
@@ -8,17 +8,47 @@ use Rattle.octets.proofs.Parts.{part-at-most, part-narrows}
 use Rattle.octets.proofs.u32_at.Statement.{statement}
 use Rattle.octets.proofs.u32_at.Tie as tie
 
+sub-if2 : tie.Need-sub-if2
+sub-if2 c = search needs
+
+four-at-requires : tie.Need-four-at-requires
+four-at-requires c κs = search needs
+
+slice-aggregate-number : tie.Need-slice-aggregate-number
+slice-aggregate-number c = search needs
+
+number-requires : tie.Need-number-requires
+number-requires c κs = search needs
+
+cast-result : tie.Need-cast-result
+cast-result c = let a = c .before .before .before .before .before .before .args in omega (arith, part-narrows (a .s .now) _ (a .at) 4 _ (c .before .before .four-at .ensures) (c .number .ensures .fits))
+
+returns : tie.Need-returns
+returns c = c .number .ensures .is ∙ ap numberOf (c .before .before .four-at .ensures)
+
 part-requires : tie.Need-part-requires
 part-requires c κs = search needs
 
-number-requires : tie.Need-number-requires
-number-requires c κs = let a = c .before .before .args in omega (arith, ap length (c .part .ensures), part-at-most (a .s .now) (a .at) 4)
+number-requires-2 : tie.Need-number-requires-2
+number-requires-2 c κs = let a = c .before .before .before .args in omega (arith, ap length (c .part .ensures), part-at-most (a .s .now) (a .at) 4)
 
-cast-result : tie.Need-cast-result
-cast-result c = let a = c .before .before .before .args in omega (arith, part-narrows (a .s .now) _ (a .at) 4 _ (c .before .part .ensures) (c .number .ensures .fits))
+cast-result-2 : tie.Need-cast-result-2
+cast-result-2 c = let a = c .before .before .before .before .args in omega (arith, part-narrows (a .s .now) _ (a .at) 4 _ (c .before .part .ensures) (c .number2 .ensures .fits))
 
-returns : tie.Need-returns
-returns c = c .number .ensures .is ∙ ap numberOf (c .before .part .ensures)
+returns-2 : tie.Need-returns-2
+returns-2 c = c .number2 .ensures .is ∙ ap numberOf (c .before .part .ensures)
 
 pub u32-at-spec : {M : Type 1} → statement M
-u32-at-spec = tie.close (tie.spec part-requires number-requires cast-result returns)
+u32-at-spec =
+    tie.close
+    (tie.spec
+    sub-if2
+    four-at-requires
+    slice-aggregate-number
+    number-requires
+    cast-result
+    returns
+    part-requires
+    number-requires-2
+    cast-result-2
+    returns-2)

@@ -4,7 +4,8 @@ use Prim.Native.Nat.{_*_, _-_, _≤_}
 use native.Mathlib.Omega.{arith}
 use lib.ListN.{length-set}
 use Rattle.meaning.specs.Octets.{unpack, text}
-use Rattle.octets.proofs.Overs.{Written, written-none, written-all}
+use Rattle.octets.specs.Parts.{Written}
+use Rattle.octets.proofs.Overs.{written-none, written-all}
 use Rattle.octets.proofs.Unpacking.{unpacked-length, high-written, two-written}
 use Rattle.octets.proofs.unpack_text.Statement.{statement}
 use Rattle.octets.proofs.unpack_text.Tie as tie

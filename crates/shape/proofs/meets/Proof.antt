@@ -15,7 +15,7 @@ meets-code-requires c κs = search needs
 returns : tie.Need-returns
 returns c =
     let a = c .before .before .before .args in
-    c .meets-code .ensures ∙ ap (λ (s : Shape). meets s (a .value .now)) (code-shape (a .number) (a .value .now) _ (c .before .code-of .ensures))
+    c .meets-code .ensures ∙ ap (λ (s : Shape). meets s (a .value .now)) (code-shape _ _ (c .before .code-of .ensures))
 
 pub meets-spec : {M : Type 1} → statement M
 meets-spec = tie.close (tie.spec code-of-requires meets-code-requires returns)

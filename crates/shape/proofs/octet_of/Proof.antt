@@ -4,9 +4,6 @@ use borrow.Author.Tests.{eq-eqb, ne-eqb}
 use Rattle.shape.proofs.octet_of.Statement.{statement}
 use Rattle.shape.proofs.octet_of.Tie as tie
 
-code-of-requires : tie.Need-code-of-requires
-code-of-requires c κs = search needs
-
 half-of-requires : tie.Need-half-of-requires
 half-of-requires c κs = search needs
 
@@ -14,10 +11,10 @@ cast-result : tie.Need-cast-result
 cast-result c = search needs
 
 returns : tie.Need-returns
-returns c = rw (← c .before .code-of .ensures, eq-eqb _ 71 (c .if1 .taken))
+returns c = rw (eq-eqb _ 71 (c .if1 .taken))
 
 returns-2 : tie.Need-returns-2
-returns-2 c = rw (← c .before .before .code-of .ensures, ne-eqb _ 71 (c .before .if1 .left)) (c .half-of .ensures)
+returns-2 c = rw (ne-eqb _ 71 (c .before .if1 .left)) (c .half-of .ensures)
 
 pub octet-of-spec : {M : Type 1} → statement M
-octet-of-spec = tie.close (tie.spec code-of-requires half-of-requires cast-result returns returns-2)
+octet-of-spec = tie.close (tie.spec half-of-requires cast-result returns returns-2)

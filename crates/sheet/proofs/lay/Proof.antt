@@ -1,10 +1,11 @@
 -- `sheet::lay` meets its contract. Assumes nothing.
 use Prim.Native.Nat.{ℕ, _+_}
 use borrow.Author.Needs.{needs}
-use mathlib.Core.Path.{ap}
+use mathlib.Core.Path.{sym, ap}
 use native.Mathlib.Omega.{arith}
 use Rattle.area.proofs.Steps.{slice-octets}
-use Rattle.sheet.proofs.Whole.{false-not-true, bounded, admitted-sound, roomy, too-long, read-uncounted}
+use Rattle.meaning.proofs.Tests.{not-both}
+use Rattle.sheet.proofs.Whole.{bounded, admitted-sound, roomy, too-long, read-uncounted}
 use Rattle.sheet.proofs.lay.Statement.{statement}
 use Rattle.sheet.proofs.lay.Tie as tie
 
@@ -28,7 +29,7 @@ returns : tie.Need-returns
 returns c = search needs
 
 pass-requires : tie.Need-pass-requires
-pass-requires c κs = (admitted-sound _ _ _ _ (c .before .before .before .before .pre), λ e. false-not-true e)
+pass-requires c κs = (admitted-sound _ _ _ _ (c .before .before .before .before .pre), λ e. not-both (sym e))
 
 add-needed : tie.Need-add-needed
 add-needed c =

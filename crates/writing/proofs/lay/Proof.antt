@@ -6,6 +6,7 @@ use native.Mathlib.Omega.{arith}
 use Rattle.area.proofs.Steps.{slice-octets}
 use Rattle.meaning.specs.Octets.{Octets}
 use Rattle.meaning.specs.Sheet.{areaIn}
+use Rattle.meaning.proofs.Octets.{octet-at}
 use Rattle.writing.proofs.Laying.{Laying, laying-none, laying-more, laying-done, head-inside, item-inside, item-written, item-fits}
 use Rattle.writing.proofs.lay.Statement.{statement}
 use Rattle.writing.proofs.lay.Tie as tie
@@ -65,6 +66,11 @@ shared-slice-read-number-in-2 c = omega (arith, head (c .before .before .before 
 
 number-in-requires : tie.Need-number-in-requires Inv-loop μ-loop
 number-in-requires c κs = search needs
+
+cast-stored-len : tie.Need-cast-stored-len Inv-loop μ-loop
+cast-stored-len c =
+    let k = c .before .before .before .before .before in
+    omega (arith, octet-at (k .before .before .before .before .before .args .sheet .now) (k .before .loop .place + 3) (octets k))
 
 stored-len-requires : tie.Need-stored-len-requires Inv-loop μ-loop
 stored-len-requires c κs = search needs
@@ -141,6 +147,7 @@ lay-spec =
     add-number-in
     shared-slice-read-number-in-2
     number-in-requires
+    cast-stored-len
     stored-len-requires
     add-part
     part-requires

@@ -3,7 +3,8 @@ use borrow.Author.Needs.{needs}
 use native.Mathlib.Omega.{arith}
 use Rattle.octets.proofs.Overs.{laid-as}
 use mathlib.Core.Path.{sym}
-use Rattle.writing.proofs.Putting.{head-two, plain-head, gpp-head, gpp-head-length}
+use Rattle.area.proofs.Carrying.{gpp-head-length}
+use Rattle.writing.proofs.Putting.{head-two, plain-head, gpp-head}
 use Rattle.writing.proofs.put_head.Statement.{statement}
 use Rattle.writing.proofs.put_head.Tie as tie
 
