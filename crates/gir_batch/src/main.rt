@@ -12,20 +12,14 @@ use desk::Refusal;
 use desk::Writing;
 use libc::STDIN_FILENO;
 use libc::STDOUT_FILENO;
+use lines::Text;
 ghost use mathlib.Core.Path.{_≡_};
-ghost use Prim.Native.Nat.{min};
 ghost use lib.ListN.{length};
 
 // How far the output buffer is used after a record, and whether it was the last.
 enum Step {
     Went(usize),
     Ended(usize),
-}
-
-fn least(a: usize, b: usize) -> usize
-    ensures { λ r. ⌜ r ≡ min a b ⌝ }
-{
-    if a < b { a } else { b }
 }
 
 // Writes octets out, and says on standard error if that fails.
@@ -48,58 +42,30 @@ fn put(out: &mut [u8], used: usize, s: &[u8]) -> usize {
     0
 }
 
-fn put_decimal(out: &mut [u8], used: usize, n: u64) -> usize {
-    let mut text = [0u8; 20];
-    let k = io::decimal(n, &mut text);
-    put(out, used, &text[..k])
-}
-
-// Lays octets as hexadecimal text over the start of `text`, as far as it has room, and tells the digits of all of them.
-fn hex(s: &[u8], text: &mut [u8]) -> usize {
-    let mut i: usize = 0;
-    while i < s.len() {
-        let x = s[i];
-        let pair = [octets::digit_text(x / 16), octets::digit_text(x)];
-        octets::copy_at(text, 2 * i, &pair);
-        i += 1;
-    }
-    2 * i
+fn put_text(out: &mut [u8], used: usize, text: Text) -> usize {
+    let held = text.octets;
+    put(out, used, octets::part(&held, 0, text.len))
 }
 
 // Octets in hexadecimal, to the line's end. No sheet is longer than 8,161 octets, and no area than 4,076.
 fn put_hex(out: &mut [u8], used: usize, s: &[u8]) -> usize {
+    let n = 2 * s.len();
     let mut text = [0u8; 16322];
-    let n = hex(s, &mut text);
+    octets::unpack_at(&mut text, 0, s, n);
     let then = put(out, used, octets::part(&text, 0, n));
     put(out, then, b"\n")
 }
 
-// The line of a refusal.
-fn put_refusal(out: &mut [u8], used: usize, number: u32, second: usize) -> usize {
-    let a = put(out, used, b"refused ");
-    let b = put_decimal(out, a, number as u64);
-    let c = put(out, b, b" ");
-    let d = put_decimal(out, c, second as u64);
-    put(out, d, b"\n")
-}
-
-fn wide(x: u8) -> u32 {
-    x as u32
+// The line of a refusal of a payload that was n octets long, of which only a part may be kept; a writing is never refused by 3.
+fn put_refusal(out: &mut [u8], used: usize, refusal: Refusal, n: usize) -> usize {
+    let second = lines::second_told(refusal.number, refusal.second as u64, n as u64);
+    put_text(out, used, lines::refusal(refusal.number, second))
 }
 
 // Reads with so much room of the buffer.
 fn read_within(area: &[u8], kind: u32, flags: u32, sheet: &mut [u8], room: usize) -> Reading {
-    let open = least(room, sheet.len());
+    let open = octets::least(room, sheet.len());
     desk::read(area, kind, flags, &mut sheet[..open])
-}
-
-// The second number of a refusal to read or check a payload of n octets; 3 tells the length of the whole area, of which only a part may be
-// kept.
-fn second_of(refusal: Refusal, n: usize) -> usize {
-    if refusal.number != 3 {
-        return refusal.second;
-    }
-    if n < 2 { 0 } else { n - 2 }
 }
 
 // Job `R`: the line of a reading, with so much room for the sheet, of a payload that was n octets long.
@@ -107,45 +73,34 @@ fn put_reading(out: &mut [u8], used: usize, payload: &[u8], n: usize, room: usiz
     if payload.len() < 2 {
         return put(out, used, b"short\n");
     }
-    let kind = wide(payload[0]);
-    let flags = wide(payload[1]);
+    let kind = octets::wide32(payload[0]);
+    let flags = octets::wide32(payload[1]);
     let mut sheet = [0u8; 8161];
     match read_within(&payload[2..], kind, flags, &mut sheet, room) {
         Reading::Sheet(m) => {
             return put_hex(out, used, octets::part(&sheet, 0, m));
         }
         Reading::Refused(refusal) => {
-            return put_refusal(out, used, refusal.number, second_of(refusal, n));
+            return put_refusal(out, used, refusal, n);
         }
     }
 }
 
-// An entry as eight hexadecimal digits, with a space before it where it is not the first.
-fn put_entry(out: &mut [u8], used: usize, entry: u32, first: bool) -> usize {
-    let mut text = [0u8; 8];
-    hex(&octets::u32_octets(entry), &mut text);
-    if first {
-        return put(out, used, &text);
+// The line of a list's first `count` entries: a space between two, and no space behind the last.
+fn put_list(out: &mut [u8], used: usize, list: &[u32], count: usize) -> usize {
+    // Nine octets for each of 6,126 entries.
+    let mut text = [0u8; 55134];
+    let n = lines::entries(list, count, b' ', &mut text);
+    if n == 0 {
+        return put(out, used, b"\n");
     }
-    let then = put(out, used, b" ");
-    put(out, then, &text)
-}
-
-// The line of a list's first `count` entries.
-fn put_list(out: &mut [u8], used: usize, list: &[u32; 6126], count: usize) -> usize {
-    let end = least(count, 6126);
-    let mut then = used;
-    let mut i: usize = 0;
-    while i < end {
-        then = put_entry(out, then, list[i], i == 0);
-        i += 1;
-    }
+    let then = put(out, used, octets::part(&text, 0, n - 1));
     put(out, then, b"\n")
 }
 
 // Checks with so much room of the list.
 fn check_within(area: &[u8], kind: u32, flags: u32, list: &mut [u32], room: usize) -> Checking {
-    let open = least(room, list.len());
+    let open = octets::least(room, list.len());
     desk::check(area, kind, flags, &mut list[..open])
 }
 
@@ -154,8 +109,8 @@ fn put_checking(out: &mut [u8], used: usize, payload: &[u8], n: usize, room: usi
     if payload.len() < 2 {
         return put(out, used, b"short\n");
     }
-    let kind = wide(payload[0]);
-    let flags = wide(payload[1]);
+    let kind = octets::wide32(payload[0]);
+    let flags = octets::wide32(payload[1]);
     // No list is longer: three entries for each of 2,038 attributes, and twelve at the end.
     let mut list = [0u32; 6126];
     match check_within(&payload[2..], kind, flags, &mut list, room) {
@@ -163,24 +118,23 @@ fn put_checking(out: &mut [u8], used: usize, payload: &[u8], n: usize, room: usi
             return put_list(out, used, &list, m);
         }
         Checking::Refused(refusal) => {
-            return put_refusal(out, used, refusal.number, second_of(refusal, n));
+            return put_refusal(out, used, refusal, n);
         }
     }
 }
 
 // Writes with so much room of the buffer.
 fn write_within(sheet: &[u8], area: &mut [u8], room: usize) -> Writing {
-    let open = least(room, area.len());
+    let open = octets::least(room, area.len());
     desk::write(sheet, &mut area[..open])
 }
 
 // The line of an area, with the kind and flags that stand in its sheet.
 fn put_area(out: &mut [u8], used: usize, kind: u8, flags: u8, area: &[u8]) -> usize {
-    let a = put_decimal(out, used, kind as u64);
-    let b = put(out, a, b" ");
-    let c = put_decimal(out, b, flags as u64);
-    let d = put(out, c, b" ");
-    put_hex(out, d, area)
+    let first = lines::with(lines::with_decimal(lines::nothing(), kind as u64), b" ");
+    let both = lines::with(lines::with_decimal(first, flags as u64), b" ");
+    let then = put_text(out, used, both);
+    put_hex(out, then, area)
 }
 
 // Job `W`: the line of a writing, with so much room for the area, of a sheet that was n octets long. A sheet is judged to its end,
@@ -199,14 +153,14 @@ fn put_writing(out: &mut [u8], used: usize, sheet: &[u8], n: usize, room: usize)
             return put_area(out, used, kind, flags, octets::part(&area, 0, length));
         }
         Writing::Refused(refusal) => {
-            return put_refusal(out, used, refusal.number, refusal.second);
+            return put_refusal(out, used, refusal, n);
         }
     }
 }
 
 // Reads so many octets of the input, or as many as the buffer has room for, to the buffer's start; whether all of them were there.
 fn fill(buf: &mut [u8], n: usize) -> bool {
-    let want = least(n, buf.len());
+    let want = octets::least(n, buf.len());
     io::read_full(STDIN_FILENO, &mut buf[..want]) == want
 }
 
@@ -215,7 +169,7 @@ fn skip(count: usize) -> bool {
     let mut left = count;
     while left > 0 {
         let mut chunk = io::buffer();
-        let want = least(left, 4096);
+        let want = octets::least(left, 4096);
         if !fill(&mut chunk, want) {
             return false;
         }
@@ -233,9 +187,9 @@ fn at_end() {
 }
 
 fn broken(out: &mut [u8], used: usize, number: u64) -> Step {
-    let a = put(out, used, b"broken ");
-    let b = put_decimal(out, a, number);
-    Step::Ended(put(out, b, b"\n"))
+    let word = lines::with(lines::nothing(), b"broken ");
+    let line = lines::with(lines::with_decimal(word, number), b"\n");
+    Step::Ended(put_text(out, used, line))
 }
 
 // Whether there is such a job.
@@ -245,7 +199,7 @@ fn is_job(job: u8) -> bool {
 
 // Takes a payload of n octets, of which the buffer keeps as many as it has room for; whether all of them were there.
 fn take(payload: &mut [u8], n: usize) -> bool {
-    let kept = least(n, payload.len());
+    let kept = octets::least(n, payload.len());
     if !fill(payload, kept) {
         return false;
     }

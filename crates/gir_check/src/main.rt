@@ -6,8 +6,6 @@ use desk::Refusal;
 use libc::STDERR_FILENO;
 use libc::STDIN_FILENO;
 use libc::STDOUT_FILENO;
-ghost use mathlib.Core.Path.{_≡_};
-ghost use Prim.Native.Nat.{min};
 
 // Says on standard error what could not be opened, read or written.
 fn fail(name: &[u8]) {
@@ -73,82 +71,19 @@ fn count(fd: i32, had: u64) -> Counted {
     Counted::All(total)
 }
 
-// Lays octets over the text from the place `used` on, where they fit, and tells where they end.
-fn put(text: &mut [u8], used: usize, s: &[u8]) -> usize {
-    if octets::copy_at(text, used, s) {
-        return used + s.len();
-    }
-    used
-}
-
-fn put_decimal(text: &mut [u8], used: usize, n: u64) -> usize {
-    let mut digits = [0u8; 20];
-    let k = io::decimal(n, &mut digits);
-    put(text, used, &digits[..k])
-}
-
-// The second number of a refusal; 3 tells the length of the whole area, of which only a part was kept.
-fn second_of(refusal: Refusal, all: u64) -> u64 {
-    if refusal.number != 3 {
-        return refusal.second as u64;
-    }
-    if all < 2 { 0 } else { all - 2 }
-}
-
 // Prints the line of a refusal, in one write.
 fn print_refusal(refusal: Refusal, all: u64) {
-    // No number has more than twenty digits.
-    let mut text = [0u8; 50];
-    let a = put(&mut text, 0, b"refused ");
-    let b = put_decimal(&mut text, a, refusal.number as u64);
-    let c = put(&mut text, b, b" ");
-    let d = put_decimal(&mut text, c, second_of(refusal, all));
-    let e = put(&mut text, d, b"\n");
-    print(octets::part(&text, 0, e));
+    let second = lines::second_told(refusal.number, refusal.second as u64, all);
+    let line = lines::refusal(refusal.number, second);
+    let text = line.octets;
+    print(octets::part(&text, 0, line.len));
 }
 
-fn wide(x: u8) -> u32 {
-    x as u32
-}
-
-// The line of an entry: eight digits and a line feed.
-fn line_of(entry: u32) -> [u8; 9] {
-    let x = octets::u32_octets(entry);
-    [
-        octets::digit_text(x[0] / 16),
-        octets::digit_text(x[0]),
-        octets::digit_text(x[1] / 16),
-        octets::digit_text(x[1]),
-        octets::digit_text(x[2] / 16),
-        octets::digit_text(x[2]),
-        octets::digit_text(x[3] / 16),
-        octets::digit_text(x[3]),
-        b'\n',
-    ]
-}
-
-fn least(a: usize, b: usize) -> usize
-    ensures { λ r. ⌜ r ≡ min a b ⌝ }
-{
-    if a < b { a } else { b }
-}
-
-// Lays the lines of the first `count` entries over the start of `text`, as far as it has room, and tells their octets.
-fn lines(list: &[u32; 6126], count: usize, text: &mut [u8]) -> usize {
-    let end = least(count, 6126);
-    let mut i: usize = 0;
-    while i < end {
-        let line = line_of(list[i]);
-        octets::copy_at(text, 9 * i, &line);
-        i += 1;
-    }
-    9 * i
-}
-
-// Prints the lines of a list in one write; an empty list prints nothing.
-fn print_list(list: &[u32; 6126], count: usize) {
+// Prints the lines of a list's first `count` entries in one write; an empty list prints nothing.
+fn print_list(list: &[u32], count: usize) {
+    // Nine octets for each of 6,126 entries.
     let mut text = [0u8; 55134];
-    let n = lines(list, count, &mut text);
+    let n = lines::entries(list, count, b'\n', &mut text);
     if 0 < n {
         print(octets::part(&text, 0, n));
     }
@@ -160,8 +95,8 @@ fn print_answer(payload: &[u8], all: u64) {
         print(b"short\n");
         return;
     }
-    let kind = wide(payload[0]);
-    let flags = wide(payload[1]);
+    let kind = octets::wide32(payload[0]);
+    let flags = octets::wide32(payload[1]);
     // Three entries for each of 2,038 attributes, and twelve at the end: no list is longer.
     let mut list = [0u32; 6126];
     match desk::check(&payload[2..], kind, flags, &mut list) {

@@ -10,17 +10,16 @@ use filing::Step;
 use libc::STDERR_FILENO;
 use libc::STDIN_FILENO;
 use libc::STDOUT_FILENO;
-ghost use mathlib.Core.Path.{_≡_};
-ghost use Prim.Native.Nat.{min};
+use lines::Text;
 
 // What a run carries from step to step: the descriptor that is open, the octets taken, the octets of the whole of IN, the octets of the
-// sheet, and the octets of the answer line, once something has failed.
+// sheet, and the answer line, once something has failed.
 struct Work {
     fd: i32,
     kept: usize,
     all: u64,
     sheet: usize,
-    said: usize,
+    said: Text,
 }
 
 // A step's answer, and what is carried on.
@@ -79,50 +78,22 @@ enum Lined {
 
 // ---- What is said
 
-// Puts octets behind what the answer line holds.
-fn put(line: &mut [u8], used: usize, s: &[u8]) -> usize {
-    if octets::copy_at(line, used, s) {
-        return used + s.len();
-    }
-    used
+fn trouble(word: &[u8]) -> Text {
+    lines::with(
+        lines::with(lines::with(lines::nothing(), b"trouble "), word),
+        b"\n",
+    )
 }
 
-fn put_decimal(line: &mut [u8], used: usize, n: u64) -> usize {
-    let mut text = [0u8; 20];
-    let k = io::decimal(n, &mut text);
-    put(line, used, &text[..k])
+fn filed(sheet: usize) -> Text {
+    let word = lines::with(lines::nothing(), b"filed ");
+    lines::with(lines::with_decimal(word, sheet as u64), b"\n")
 }
 
-fn put_trouble(line: &mut [u8], word: &[u8]) -> usize {
-    let a = put(line, 0, b"trouble ");
-    let b = put(line, a, word);
-    put(line, b, b"\n")
-}
-
-fn put_filed(line: &mut [u8], sheet: usize) -> usize {
-    let a = put(line, 0, b"filed ");
-    let b = put_decimal(line, a, sheet as u64);
-    put(line, b, b"\n")
-}
-
-// The octets of the area, of all that IN has.
-fn area_length(all: u64) -> u64 {
-    if all < 2 { 0 } else { all - 2 }
-}
-
-// The line of a refusal; 3 tells the length of the whole area, of which only a part was kept.
-fn put_refusal(line: &mut [u8], refusal: Refusal, all: u64) -> usize {
-    let number = refusal.number;
-    let second = refusal.second;
-    let a = put(line, 0, b"refused ");
-    let b = put_decimal(line, a, number as u64);
-    let c = put(line, b, b" ");
-    if number == 3 {
-        let d = put_decimal(line, c, area_length(all));
-        return put(line, d, b"\n");
-    }
-    let d = put_decimal(line, c, second as u64);
-    put(line, d, b"\n")
+// The line of a refusal of an IN that has so many octets, of which only a part was kept.
+fn refused(refusal: Refusal, all: u64) -> Text {
+    let second = lines::second_told(refusal.number, refusal.second as u64, all);
+    lines::refusal(refusal.number, second)
 }
 
 // Says on standard error which step failed, at which file, and the system's reason.
@@ -145,8 +116,9 @@ fn complain(word: &[u8], name: &[u8], reason: &[u8]) {
 }
 
 // Writes an answer line; whether standard output took it.
-fn print(line: &[u8]) -> bool {
-    if io::write_all(STDOUT_FILENO, line) {
+fn print(line: Text) -> bool {
+    let text = line.octets;
+    if io::write_all(STDOUT_FILENO, octets::part(&text, 0, line.len)) {
         return true;
     }
     fail(b"answer", b"standard output");
@@ -162,30 +134,25 @@ fn well(work: Work) -> Done {
     }
 }
 
-// A step that went badly, with so many octets in the answer line.
-fn badly(work: Work, said: usize) -> Done {
+// A step that went badly, with the answer line.
+fn badly(mut work: Work, said: Text) -> Done {
+    work.said = said;
     Done {
         answer: Answer::Badly,
-        work: Work {
-            fd: work.fd,
-            kept: work.kept,
-            all: work.all,
-            sheet: work.sheet,
-            said,
-        },
+        work,
     }
 }
 
 // A step that failed for the system's reason.
-fn failed(line: &mut [u8], work: Work, word: &[u8], name: &[u8]) -> Done {
+fn failed(work: Work, word: &[u8], name: &[u8]) -> Done {
     fail(word, name);
-    badly(work, put_trouble(line, word))
+    badly(work, trouble(word))
 }
 
 // A step that failed for a reason of our own.
-fn wrong(line: &mut [u8], work: Work, word: &[u8], name: &[u8], reason: &[u8]) -> Done {
+fn wrong(work: Work, word: &[u8], name: &[u8], reason: &[u8]) -> Done {
     complain(word, name, reason);
-    badly(work, put_trouble(line, word))
+    badly(work, trouble(word))
 }
 
 // A step that clears up; where it fails, the answer line stays what it is.
@@ -194,26 +161,18 @@ fn cleared(ok: bool, work: Work, word: &[u8], name: &[u8]) -> Done {
         return well(work);
     }
     fail(word, name);
-    badly(work, work.said)
-}
-
-fn with_fd(work: Work, fd: i32) -> Work {
-    Work {
-        fd,
-        kept: work.kept,
-        all: work.all,
-        sheet: work.sheet,
-        said: work.said,
+    Done {
+        answer: Answer::Badly,
+        work,
     }
 }
 
-// ---- Reading files
-
-fn least(a: usize, b: usize) -> usize
-    ensures { λ r. ⌜ r ≡ min a b ⌝ }
-{
-    if a < b { a } else { b }
+fn with_fd(mut work: Work, fd: i32) -> Work {
+    work.fd = fd;
+    work
 }
+
+// ---- Reading files
 
 // One read into the buffer from a place on.
 fn read_at(fd: i32, buf: &mut [u8], at: usize) -> Filled {
@@ -233,7 +192,7 @@ fn fill(fd: i32, buf: &mut [u8]) -> Filled {
     while at < buf.len() {
         match read_at(fd, buf, at) {
             Filled::Octets(got) => {
-                let n = least(got, buf.len() - at);
+                let n = octets::least(got, buf.len() - at);
                 if n == 0 {
                     return Filled::Octets(at);
                 }
@@ -288,60 +247,47 @@ fn count(fd: i32, had: u64) -> Counted {
 // ---- The steps
 
 // Take: IN, or as much of it as decides the answer, and its length; the 4,077th octet of an area is enough to know that it is too long.
-fn take(input: &[u8], payload: &mut [u8], line: &mut [u8], work: Work) -> Done {
+fn take(input: &[u8], payload: &mut [u8], mut work: Work) -> Done {
     let fd = os::open_read(input);
     if fd < 0 {
-        return failed(line, work, b"in", input);
+        return failed(work, b"in", input);
     }
     let Filled::Octets(kept) = fill(fd, payload) else {
-        let done = failed(line, work, b"in", input);
+        let done = failed(work, b"in", input);
         libc::close(fd);
         return done;
     };
     let Counted::All(all) = count(fd, kept as u64) else {
-        let done = failed(line, work, b"in", input);
+        let done = failed(work, b"in", input);
         libc::close(fd);
         return done;
     };
     libc::close(fd);
-    well(Work {
-        fd: work.fd,
-        kept,
-        all,
-        sheet: work.sheet,
-        said: work.said,
-    })
-}
-
-fn wide(x: u8) -> u32 {
-    x as u32
+    work.kept = kept;
+    work.all = all;
+    well(work)
 }
 
 // Read: the sheet of the area.
-fn make_sheet(taken: &[u8], sheet: &mut [u8], line: &mut [u8], work: Work) -> Done {
+fn make_sheet(taken: &[u8], sheet: &mut [u8], mut work: Work) -> Done {
     if taken.len() < 2 {
-        return badly(work, put(line, 0, b"short\n"));
+        return badly(work, lines::with(lines::nothing(), b"short\n"));
     }
-    let kind = wide(taken[0]);
-    let flags = wide(taken[1]);
+    let kind = octets::wide32(taken[0]);
+    let flags = octets::wide32(taken[1]);
     match desk::read(&taken[2..], kind, flags, sheet) {
         Reading::Sheet(n) => {
-            return well(Work {
-                fd: work.fd,
-                kept: work.kept,
-                all: work.all,
-                sheet: n,
-                said: work.said,
-            });
+            work.sheet = n;
+            return well(work);
         }
         Reading::Refused(refusal) => {
-            return badly(work, put_refusal(line, refusal, work.all));
+            return badly(work, refused(refusal, work.all));
         }
     }
 }
 
 // Return: the sheet gives back what was taken.
-fn go_back(input: &[u8], taken: &[u8], sheet: &[u8], line: &mut [u8], work: Work) -> Done {
+fn go_back(input: &[u8], taken: &[u8], sheet: &[u8], work: Work) -> Done {
     let mut area = [0u8; 4076];
     match desk::write(sheet, &mut area) {
         Writing::Area {
@@ -352,16 +298,10 @@ fn go_back(input: &[u8], taken: &[u8], sheet: &[u8], line: &mut [u8], work: Work
             if filing::came_back(taken, kind, flags, octets::part(&area, 0, length)) {
                 return well(work);
             }
-            return wrong(
-                line,
-                work,
-                b"return",
-                input,
-                b"its sheet gives another area",
-            );
+            return wrong(work, b"return", input, b"its sheet gives another area");
         }
         Writing::Refused(_) => {
-            return wrong(line, work, b"return", input, b"its sheet gives no area");
+            return wrong(work, b"return", input, b"its sheet gives no area");
         }
     }
 }
@@ -393,74 +333,62 @@ fn what_stands(path: &[u8]) -> Stands {
 }
 
 // Look, LookAgain: nothing stands at OUT.
-fn look(out: &[u8], line: &mut [u8], work: Work) -> Done {
+fn look(out: &[u8], work: Work) -> Done {
     match what_stands(out) {
         Stands::Nothing => well(work),
-        Stands::Link => wrong(
-            line,
-            work,
-            b"out",
-            out,
-            b"a link of this name stands already",
-        ),
-        Stands::Other => wrong(
-            line,
-            work,
-            b"out",
-            out,
-            b"a file of this name stands already",
-        ),
-        Stands::Unknown => failed(line, work, b"out", out),
+        Stands::Link => wrong(work, b"out", out, b"a link of this name stands already"),
+        Stands::Other => wrong(work, b"out", out, b"a file of this name stands already"),
+        Stands::Unknown => failed(work, b"out", out),
     }
 }
 
 // Create: the temporary file, new.
-fn create(temp: &[u8], line: &mut [u8], work: Work) -> Done {
+fn create(temp: &[u8], work: Work) -> Done {
     let fd = os::create(temp);
     if fd < 0 {
-        return failed(line, work, b"create", temp);
+        return failed(work, b"create", temp);
     }
     well(with_fd(work, fd))
 }
 
 // Write: the sheet, whole.
-fn write(temp: &[u8], sheet: &[u8], line: &mut [u8], work: Work) -> Done {
+fn write(temp: &[u8], sheet: &[u8], work: Work) -> Done {
     if io::write_all(work.fd, sheet) {
         return well(work);
     }
-    failed(line, work, b"write", temp)
+    failed(work, b"write", temp)
 }
 
 // Sync: the temporary file is on the disk.
-fn sync(temp: &[u8], line: &mut [u8], work: Work) -> Done {
+fn sync(temp: &[u8], work: Work) -> Done {
     if libc::fsync(work.fd) < 0 {
-        return failed(line, work, b"sync", temp);
+        return failed(work, b"sync", temp);
     }
     well(work)
 }
 
 // Close: the temporary file.
-fn close(temp: &[u8], line: &mut [u8], work: Work) -> Done {
+fn close(temp: &[u8], work: Work) -> Done {
     if libc::close(work.fd) < 0 {
-        return failed(line, work, b"close", temp);
+        return failed(work, b"close", temp);
     }
     well(work)
 }
 
 // Open: the temporary file again.
-fn open(temp: &[u8], line: &mut [u8], work: Work) -> Done {
+fn open(temp: &[u8], work: Work) -> Done {
     let fd = os::open_read(temp);
     if fd < 0 {
-        return failed(line, work, b"open", temp);
+        return failed(work, b"open", temp);
     }
     well(with_fd(work, fd))
 }
 
 // Compare: what is there is the sheet, no octet more and none less; closes the file. No sheet is longer than 8,161 octets.
-fn compare(temp: &[u8], sheet: &[u8], line: &mut [u8], work: Work) -> Done {
+fn compare(temp: &[u8], sheet: &[u8], work: Work) -> Done {
     let mut back = [0u8; 8162];
     let Filled::Octets(n) = fill(work.fd, &mut back) else {
-        let done = failed(line, work, b"compare", temp);
+        let done = failed(work, b"compare", temp);
         libc::close(work.fd);
         return done;
     };
@@ -469,7 +397,6 @@ fn compare(temp: &[u8], sheet: &[u8], line: &mut [u8], work: Work) -> Done {
         return well(work);
     }
     wrong(
-        line,
         work,
         b"compare",
         temp,
@@ -492,27 +419,35 @@ fn folder_synced(folder: &[u8]) -> bool {
 }
 
 // SyncName, SyncFolder: OUT's folder is on the disk, with the names in it.
-fn sync_folder(out: &[u8], line: &mut [u8], work: Work, word: &[u8]) -> Done {
+fn sync_folder(out: &[u8], work: Work, word: &[u8]) -> Done {
     let n = filing::folder_len(out);
     if n == 0 {
         if folder_synced(b".") {
             return well(work);
         }
-        return failed(line, work, word, b".");
+        return failed(work, word, b".");
     }
     let folder = octets::part(out, 0, n);
     if folder_synced(folder) {
         return well(work);
     }
-    failed(line, work, word, folder)
+    failed(work, word, folder)
 }
 
 // Rename: the temporary file gets the name OUT.
-fn rename(temp: &[u8], out: &[u8], line: &mut [u8], work: Work) -> Done {
+fn rename(temp: &[u8], out: &[u8], work: Work) -> Done {
     if os::rename(temp, out) < 0 {
-        return failed(line, work, b"rename", out);
+        return failed(work, b"rename", out);
     }
     well(work)
+}
+
+// Puts octets behind what a buffer holds, where they fit, and tells where they end.
+fn put(buf: &mut [u8], used: usize, s: &[u8]) -> usize {
+    if octets::copy_at(buf, used, s) {
+        return used + s.len();
+    }
+    used
 }
 
 // The name under which a withdrawn sheet is kept: the temporary file's, with `.kept` for `.tmp`. Tells its octets.
@@ -536,7 +471,10 @@ fn withdraw(temp: &[u8], out: &[u8], work: Work) -> Done {
             out,
             b"it stays, since another sheet is kept already",
         );
-        return badly(work, work.said);
+        return Done {
+            answer: Answer::Badly,
+            work,
+        };
     };
     if os::rename(out, kept) < 0 {
         return cleared(false, work, b"withdraw", out);
@@ -553,32 +491,30 @@ fn perform(
     temp: &[u8],
     payload: &mut [u8],
     sheet: &mut [u8],
-    line: &mut [u8],
     work: Work,
 ) -> Done {
     let kept = work.kept;
     let len = work.sheet;
     match step {
-        Step::Take => take(input, payload, line, work),
-        Step::Read => make_sheet(octets::part(payload, 0, kept), sheet, line, work),
+        Step::Take => take(input, payload, work),
+        Step::Read => make_sheet(octets::part(payload, 0, kept), sheet, work),
         Step::Return => go_back(
             input,
             octets::part(payload, 0, kept),
             octets::part(sheet, 0, len),
-            line,
             work,
         ),
-        Step::Look => look(out, line, work),
-        Step::Create => create(temp, line, work),
-        Step::Write => write(temp, octets::part(sheet, 0, len), line, work),
-        Step::Sync => sync(temp, line, work),
-        Step::Close => close(temp, line, work),
-        Step::Open => open(temp, line, work),
-        Step::Compare => compare(temp, octets::part(sheet, 0, len), line, work),
-        Step::SyncName => sync_folder(out, line, work, b"name"),
-        Step::LookAgain => look(out, line, work),
-        Step::Rename => rename(temp, out, line, work),
-        Step::SyncFolder => sync_folder(out, line, work, b"folder"),
+        Step::Look => look(out, work),
+        Step::Create => create(temp, work),
+        Step::Write => write(temp, octets::part(sheet, 0, len), work),
+        Step::Sync => sync(temp, work),
+        Step::Close => close(temp, work),
+        Step::Open => open(temp, work),
+        Step::Compare => compare(temp, octets::part(sheet, 0, len), work),
+        Step::SyncName => sync_folder(out, work, b"name"),
+        Step::LookAgain => look(out, work),
+        Step::Rename => rename(temp, out, work),
+        Step::SyncFolder => sync_folder(out, work, b"folder"),
         Step::Abandon => cleared(libc::close(work.fd) >= 0, work, b"close", temp),
         Step::Remove => cleared(os::unlink(temp) >= 0, work, b"remove", temp),
         Step::Withdraw => withdraw(temp, out, work),
@@ -588,8 +524,8 @@ fn perform(
     }
 }
 
-// Files one sheet, step by step, and puts its answer line; tells the line's octets.
-fn file(input: &[u8], out: &[u8], temp: &[u8], line: &mut [u8]) -> usize {
+// Files one sheet, step by step, and tells its answer line.
+fn file(input: &[u8], out: &[u8], temp: &[u8]) -> Text {
     let mut payload = [0u8; 4079];
     let mut sheet = [0u8; 8161];
     let mut work = Work {
@@ -597,18 +533,18 @@ fn file(input: &[u8], out: &[u8], temp: &[u8], line: &mut [u8]) -> usize {
         kept: 0,
         all: 0,
         sheet: 0,
-        said: 0,
+        said: lines::nothing(),
     };
     let mut step = Step::Take;
     while filing::steps_left(step) > 0 {
-        let done = perform(step, input, out, temp, &mut payload, &mut sheet, line, work);
+        let done = perform(step, input, out, temp, &mut payload, &mut sheet, work);
         let answer = done.answer;
         let carried = done.work;
         step = filing::next(step, answer);
         work = carried;
     }
     if let Step::Filed = step {
-        return put_filed(line, work.sheet);
+        return filed(work.sheet);
     }
     work.said
 }
@@ -619,12 +555,9 @@ fn answer(input: &[u8], out: &[u8]) -> bool {
     let n = filing::temporary(out, &mut name);
     if n == 0 {
         complain(b"names", out, b"the name is too long");
-        return print(b"trouble names\n");
+        return print(trouble(b"names"));
     }
-    let mut space = [0u8; 64];
-    let line: &mut [u8] = &mut space;
-    let said = file(input, out, octets::part(&name, 0, n), line);
-    print(octets::part(line, 0, said))
+    print(file(input, out, octets::part(&name, 0, n)))
 }
 
 // ---- One pair of names, or a list
@@ -632,7 +565,7 @@ fn answer(input: &[u8], out: &[u8]) -> bool {
 // Says what is wrong with a line of the list, and answers it; whether standard output took the answer.
 fn no_names(line: &[u8], reason: &[u8]) -> bool {
     complain(b"names", line, reason);
-    print(b"trouble names\n")
+    print(trouble(b"names"))
 }
 
 // Answers a line of the list.
@@ -749,14 +682,14 @@ fn answer_arguments() {
     let n = os::arg(1, &mut input);
     if os::errno() != 0 {
         fail(b"names", b"IN");
-        print(b"trouble names\n");
+        print(trouble(b"names"));
         return;
     }
     let mut out = io::buffer();
     let m = os::arg(2, &mut out);
     if os::errno() != 0 {
         fail(b"names", b"OUT");
-        print(b"trouble names\n");
+        print(trouble(b"names"));
         return;
     }
     if (n == 0) | (m == 0) {

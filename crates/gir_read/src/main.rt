@@ -70,42 +70,12 @@ fn count(fd: i32, had: u64) -> Counted {
     Counted::All(total)
 }
 
-// Lays octets over the text from the place `used` on, where they fit, and tells where they end.
-fn put(text: &mut [u8], used: usize, s: &[u8]) -> usize {
-    if octets::copy_at(text, used, s) {
-        return used + s.len();
-    }
-    used
-}
-
-fn put_decimal(text: &mut [u8], used: usize, n: u64) -> usize {
-    let mut digits = [0u8; 20];
-    let k = io::decimal(n, &mut digits);
-    put(text, used, &digits[..k])
-}
-
-// The second number of a refusal; 3 tells the length of the whole area, of which only a part was kept.
-fn second_of(refusal: Refusal, all: u64) -> u64 {
-    if refusal.number != 3 {
-        return refusal.second as u64;
-    }
-    if all < 2 { 0 } else { all - 2 }
-}
-
 // Prints the line of a refusal, in one write.
 fn print_refusal(refusal: Refusal, all: u64) {
-    // No number has more than twenty digits.
-    let mut text = [0u8; 50];
-    let a = put(&mut text, 0, b"refused ");
-    let b = put_decimal(&mut text, a, refusal.number as u64);
-    let c = put(&mut text, b, b" ");
-    let d = put_decimal(&mut text, c, second_of(refusal, all));
-    let e = put(&mut text, d, b"\n");
-    print(octets::part(&text, 0, e));
-}
-
-fn wide(x: u8) -> u32 {
-    x as u32
+    let second = lines::second_told(refusal.number, refusal.second as u64, all);
+    let line = lines::refusal(refusal.number, second);
+    let text = line.octets;
+    print(octets::part(&text, 0, line.len));
 }
 
 // Prints the answer for a payload: the kind octet, the flags octet and the area, or as much of it as decides the answer.
@@ -114,8 +84,8 @@ fn print_answer(payload: &[u8], all: u64) {
         print(b"short\n");
         return;
     }
-    let kind = wide(payload[0]);
-    let flags = wide(payload[1]);
+    let kind = octets::wide32(payload[0]);
+    let flags = octets::wide32(payload[1]);
     let mut sheet = [0u8; 8161];
     match desk::read(&payload[2..], kind, flags, &mut sheet) {
         Reading::Sheet(n) => {

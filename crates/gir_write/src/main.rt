@@ -7,7 +7,6 @@ use libc::STDERR_FILENO;
 use libc::STDIN_FILENO;
 use libc::STDOUT_FILENO;
 ghost use mathlib.Core.Path.{_≡_};
-ghost use Prim.Native.Nat.{min};
 ghost use lib.ListN.{length};
 
 // Says on standard error what could not be opened, read or written.
@@ -23,36 +22,11 @@ fn print(s: &[u8]) {
     }
 }
 
-fn least(a: usize, b: usize) -> usize
-    ensures { λ r. ⌜ r ≡ min a b ⌝ }
-{
-    if a < b { a } else { b }
-}
-
-// Lays octets over the text from the place `used` on, where they fit, and tells where they end.
-fn put(text: &mut [u8], used: usize, s: &[u8]) -> usize {
-    if octets::copy_at(text, used, s) {
-        return used + s.len();
-    }
-    used
-}
-
-fn put_decimal(text: &mut [u8], used: usize, n: u64) -> usize {
-    let mut digits = [0u8; 20];
-    let k = io::decimal(n, &mut digits);
-    put(text, used, &digits[..k])
-}
-
 // Prints the line of a refusal, in one write.
 fn print_refusal(refusal: Refusal) {
-    // No number has more than twenty digits.
-    let mut text = [0u8; 50];
-    let a = put(&mut text, 0, b"refused ");
-    let b = put_decimal(&mut text, a, refusal.number as u64);
-    let c = put(&mut text, b, b" ");
-    let d = put_decimal(&mut text, c, refusal.second as u64);
-    let e = put(&mut text, d, b"\n");
-    print(octets::part(&text, 0, e));
+    let line = lines::refusal(refusal.number, refusal.second as u64);
+    let text = line.octets;
+    print(octets::part(&text, 0, line.len));
 }
 
 // Prints the kind octet, the flags octet and the area, in one write; no area is longer than 4,076 octets.
@@ -61,7 +35,7 @@ fn print_area(kind: u8, flags: u8, area: &[u8]) {
     let mut answer = [0u8; 4078];
     octets::copy_at(&mut answer, 0, &head);
     octets::copy_at(&mut answer, 2, area);
-    print(octets::part(&answer, 0, 2 + least(area.len(), 4076)));
+    print(octets::part(&answer, 0, 2 + octets::least(area.len(), 4076)));
 }
 
 // Prints the answer for a sheet.

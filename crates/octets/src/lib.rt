@@ -35,6 +35,13 @@ pub fn wide(x: u8) -> usize
     x as usize
 }
 
+// An octet as a number of 32 bits, as kind and flags are handed over.
+pub fn wide32(x: u8) -> u32
+    ensures { λ r. ⌜ r ≡ x ⌝ }
+{
+    x as u32
+}
+
 // The `len` octets of `s` from `at` on, or as many of them as `s` has.
 pub fn part(s: &[u8], at: usize, len: usize) -> &[u8]
     ensures { λ r. ⌜ now r ≡ partOf (now (s .entry)) at len ⌝ }
@@ -342,7 +349,7 @@ fn pair(high: u8, low: u8) -> u8
 }
 
 // The smaller of two numbers.
-fn least(a: usize, b: usize) -> usize
+pub fn least(a: usize, b: usize) -> usize
     ensures { λ r. ⌜ r ≡ min a b ⌝ }
 {
     if a < b { a } else { b }

@@ -9,10 +9,13 @@ use Rattle.gir_file.proofs.file.Statement.{statement}
 use Rattle.gir_file.proofs.file.Tie as tie
 
 abbrev Inv-loop : tie.InvT-loop
-Inv-loop input out temp line₀ payload₀ sheet₀ work₀ step₀ line payload sheet work step = (length line ≡ length line₀) × ((length payload ≡ 4079) × (length sheet ≡ 8161))
+Inv-loop input out temp payload₀ sheet₀ work₀ step₀ payload sheet work step = (length payload ≡ 4079) × (length sheet ≡ 8161)
 
 abbrev μ-loop : tie.MeasureT-loop
-μ-loop input out temp line₀ payload₀ sheet₀ work₀ step₀ line payload sheet work step = left step
+μ-loop input out temp payload₀ sheet₀ work₀ step₀ payload sheet work step = left step
+
+nothing-requires : tie.Need-nothing-requires Inv-loop μ-loop
+nothing-requires c κs = search needs
 
 loop-holds : tie.Need-loop-holds Inv-loop μ-loop
 loop-holds c = search needs
@@ -33,7 +36,10 @@ next-requires : tie.Need-next-requires Inv-loop μ-loop
 next-requires c κs = search needs
 
 loop-less : tie.Need-loop-less Inv-loop μ-loop
-loop-less c = left-falls (c .before .before .before .before .before .before .before .before .before .before .before .before .loop .step) (c .next .result) (c .before .before .before .before .before .before .perform .result .answer) (c .before .before .before .before .before .before .before .before .before .before .before .steps-left .result) (c .before .before .before .before .before .before .before .before .before .before .before .steps-left .ensures) (omega arith) (c .next .ensures)
+loop-less c =
+    let b = c .before .before .before .before in
+    let t = b .before .before .before .before in
+    left-falls (t .before .loop .step) (c .next .result) (b .perform .result .answer) (t .steps-left .result) (t .steps-left .ensures) (omega arith) (c .next .ensures)
 
 loop-again : tie.Need-loop-again Inv-loop μ-loop
 loop-again c = search needs
@@ -41,17 +47,11 @@ loop-again c = search needs
 enum-told : tie.Need-enum-told Inv-loop μ-loop
 enum-told c = search needs
 
-put-filed-requires : tie.Need-put-filed-requires Inv-loop μ-loop
-put-filed-requires c κs = search needs
-
-same-length : tie.Need-same-length Inv-loop μ-loop
-same-length c = search needs
+filed-requires : tie.Need-filed-requires Inv-loop μ-loop
+filed-requires c κs = search needs
 
 returns : tie.Need-returns Inv-loop μ-loop
 returns c = search needs
-
-same-length-2 : tie.Need-same-length-2 Inv-loop μ-loop
-same-length-2 c = search needs
 
 returns-2 : tie.Need-returns-2 Inv-loop μ-loop
 returns-2 c = search needs
@@ -62,6 +62,7 @@ file-spec =
     (tie.spec
     Inv-loop
     μ-loop
+    nothing-requires
     loop-holds
     steps-left-requires
     slice-aggregate-perform
@@ -71,8 +72,6 @@ file-spec =
     loop-less
     loop-again
     enum-told
-    put-filed-requires
-    same-length
+    filed-requires
     returns
-    same-length-2
     returns-2)

@@ -1,0 +1,4 @@
+pub mod Spelling
+pub mod Pieces
+pub mod Listing
+pub mod Cases
