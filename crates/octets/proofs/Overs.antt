@@ -32,7 +32,7 @@ over-snoc s d x n e h =
     let g : length (s ++ (x ∷ [])) ≡ suc n = simp length-append (omega arith) in
     rw (e, g, drop-cons d n 0 h, set-at s _ (drop (suc n) d) x n e, append-snoc s x)
 
--- of two that are laid over one behind the other only the later is seen, where it is as long
+-- what is laid over the start hides what was laid there before, where it is as long
 over-again : (s t d : List ℕ) → length t ≤ length s → over s (over t d) ≡ over s d
 unfolding over
 over-again s t d h =
@@ -83,9 +83,11 @@ written-on s d out out′ i j w v h =
       is = v .is ∙ ap (over (take j s)) (w .is) ∙ over-again (take j s) (take i s) d (omega (arith, length-take-le i s (w .within), length-take-le j s (v .within)));
     }
 
+-- To the end, too.
 pub written-end : (s d out out′ : List ℕ) (i : ℕ) → Written s d out i → out′ ≡ over s out → out′ ≡ over s d
 written-end s d out out′ i w e = e ∙ ap (over s) (w .is) ∙ over-again s (take i s) d (omega (arith, length-take-le i s (w .within), w .within))
 
+-- what is written, by another name
 pub written-as : (s d out o : List ℕ) (i j : ℕ) → Written s d o j → out ≡ o → i ≡ j → Written s d out i
 written-as s d out o i j w p q = rw (p, q) w
 
@@ -238,7 +240,7 @@ module _ (at : ℕ) (s d : List ℕ) (n : ℕ) (fit : Bool) (size : n ≡ length
         holds = ap (λ (r : List ℕ). take at d ++ r) (ap (λ (r : List ℕ). p ++ r) none ∙ append-nil p ∙ q ∙ ap (over s) all) ∙ sym (laid-fits at s d (omega arith));
       }
 
--- the same, where the room itself was tested
+-- The same of a writer that tests the room itself.
 pub laid-short : (at : ℕ) (s d : List ℕ) → length d < at + length s → Laid at s d false d
 laid-short at s d h = laid-not at s d (length s) _ refl refl (lt-leb (at + length s) (length d) h)
 

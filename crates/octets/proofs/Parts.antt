@@ -1,4 +1,4 @@
--- Laws of a part of octets: its length, and that it holds octets. Assumes nothing.
+-- Laws of a part of octets: its length, four octets by their places, and that it holds octets. Assumes nothing.
 use mathlib.Core.Path.{_≡_, refl, sym, ap, ap₂, _∙_}
 use mathlib.Core.List.{List, [], _∷_}
 use Prim.Native.Nat.{ℕ, suc, _+_, _-_, _^_, _<_, _≤_, min}
