@@ -15,7 +15,7 @@ use Rattle.meaning.specs.Shapes.{Shape, number, address, digits, hexadecimal, q
 use Rattle.meaning.specs.Sheet.{typeOf, subOf, formOf, storedOf, valueOf, decodes, form, stored, count, item, carries, numberIn, storedLength}
 use Rattle.meaning.proofs.Tests.{both, parts, either, is-true, passes, same-one, same-itself}
 use Rattle.meaning.proofs.Packing.{unpack-length}
-use Rattle.meaning.proofs.Forms.{released, either-way, Decoded, Plainly}
+use Rattle.meaning.proofs.Forms.{released, raw-low, either-way, Decoded, Plainly}
 use Rattle.shape.proofs.Codes.{fifteen, at-most-fifteen}
 use Rattle.item.specs.Stands.{standsFor, raw, held, shaped}
 use Rattle.item.proofs.Texts.{text-length}
@@ -26,10 +26,6 @@ same-test true true h g = refl
 same-test true false h g = absurd (h tt)
 same-test false true h g = absurd (g tt)
 same-test false false h g = refl
-
-raw-low : (b : Bool) → cond b 0 1 ≤ 1
-raw-low true = omega arith
-raw-low false = omega arith
 
 -- ---- The head
 

@@ -7,13 +7,13 @@ use mathlib.Core.List.{List, [], _∷_}
 use Prim.Native.Nat.{ℕ, suc, _+_, _*_, _-_, _/_, _%_, _<_, _≤_}
 use native.Mathlib.Omega.{arith}
 use lib.Dec.{T, eqb, leb, eqb→eq, leb→le}
-use borrow.Author.Tests.{lt-leb, eq-eqb, eqb-true}
+use borrow.Author.Tests.{lt-leb, le-leb, eq-eqb, eqb-true}
 use lib.ListN.{length, take, drop, getD, length-drop}
 use Rattle.meaning.specs.Octets.{between, all, same, Octets, isDigit, isHex, digitValue, digitText, values, text, pack, packedLength}
 use Rattle.meaning.specs.Framing.{isPlain}
 use Rattle.meaning.specs.Shapes.{Shape, number, address, digits, hexadecimal, qos, hexDigit, anyOctet, decimalDigit, atLeast, exactly, blocks, free, shapeOf, release, meets}
 use Rattle.meaning.specs.Sheet.{formOf, storedOf, valueOf, decodes, form, stored, count, storedLength, valueIn}
-use Rattle.meaning.proofs.Packing.{Hexes, digits-hexes, hexes-octets, values-length, pack-length, text-values, text-back, text-back-even, values-halves, halves-octets, packed-octets}
+use Rattle.meaning.proofs.Packing.{Hexes, digits-hexes, hexes-octets, values-length, pack-length, packed-values, text-values, text-back, text-back-even, values-halves, halves-octets, packed-octets}
 use Rattle.meaning.proofs.Tests.{parts, either, passes, not-both, same-one}
 
 -- ---- Only-form
@@ -22,9 +22,10 @@ use Rattle.meaning.proofs.Tests.{parts, either, passes, not-both, same-
 abbrev pub HasForm : (n : ℕ) → Type 0
 HasForm n = T (leb 2 (formOf (shapeOf n)))
 
-raw-low : (b : Bool) → leb 2 (cond b 0 1) ≡ false
-raw-low true = refl
-raw-low false = refl
+-- the forms of a value that stands as it is are 0 and 1
+pub raw-low : (b : Bool) → cond b 0 1 ≤ 1
+raw-low true = omega arith
+raw-low false = omega arith
 
 -- Forms 2 to 7 are used exactly when the number has one and the value meets its shape.
 pub only-form : (n : ℕ) (v : List ℕ) → T (leb 2 (form n v)) ↔ (HasForm n × T (meets (shapeOf n) v))
@@ -36,8 +37,8 @@ only-form n v = (there, back)
       where
         go : (a b : Bool) → leb 2 (formOf (shapeOf n)) ≡ a → T (leb 2 (cond (a && b) (formOf (shapeOf n)) (cond (isPlain n) 0 1))) → T a × T b
         go true true e t = (tt, tt)
-        go true false e t = absurd (rw (raw-low (isPlain n)) at t)
-        go false b e t = absurd (rw (raw-low (isPlain n)) at t)
+        go true false e t = absurd (rw (lt-leb 2 (cond (isPlain n) 0 1) (omega (arith, raw-low (isPlain n)))) at t)
+        go false b e t = absurd (rw (lt-leb 2 (cond (isPlain n) 0 1) (omega (arith, raw-low (isPlain n)))) at t)
 
     back : HasForm n × T (meets (shapeOf n) v) → T (leb 2 (cond (leb 2 (formOf (shapeOf n)) && meets (shapeOf n) v) (formOf (shapeOf n)) (cond (isPlain n) 0 1)))
     back p = go (leb 2 (formOf (shapeOf n))) (meets (shapeOf n) v) refl (p .0) (p .1)
@@ -147,7 +148,7 @@ digits-stored : (s : Shape) (v : List ℕ) → formOf s ≡ 4 → length (stored
 unfolding formOf storedOf
 digits-stored number v e = absurd (omega arith)
 digits-stored address v e = absurd (omega arith)
-digits-stored (digits a b) v e = pack-length (values v) ∙ ap packedLength (values-length v)
+digits-stored (digits a b) v e = packed-values v
 digits-stored hexadecimal v e = absurd (omega arith)
 digits-stored qos v e = absurd (omega arith)
 digits-stored hexDigit v e = absurd (omega arith)
@@ -208,10 +209,6 @@ pub raw-not-4 : (b : Bool) → eqb (cond b 0 1) 4 ≡ false
 raw-not-4 true = refl
 raw-not-4 false = refl
 
-raw-le-1 : (b : Bool) → leb (cond b 0 1) 1 ≡ true
-raw-le-1 true = refl
-raw-le-1 false = refl
-
 -- An item announces as many octets as it stores.
 pub announced : (n : ℕ) (v : List ℕ) → storedLength (form n v) (count n v) ≡ length (stored n v)
 unfolding count
@@ -234,7 +231,7 @@ stands-for n v = go (either-way n v)
         rw (d .form-is, low, d .stored-is)
         (value-back (shapeOf n) v (cond (eqb (formOf (shapeOf n)) 4) (length v) (length (storedOf (shapeOf n) v))) (d .own) (d .met)
         (λ e. rw (eq-eqb (formOf (shapeOf n)) 4 e)))
-    go (inr p) = rw (p .form-is, p .stored-is, raw-le-1 (isPlain n))
+    go (inr p) = rw (p .form-is, p .stored-is, le-leb (cond (isPlain n) 0 1) 1 (raw-low (isPlain n)))
 
 -- What is stored is no longer than the value.
 pub stored-le : (n : ℕ) (v : List ℕ) → length (stored n v) ≤ length v
@@ -292,10 +289,6 @@ own-low (exactly n) = omega arith
 own-low blocks = omega arith
 own-low free = omega arith
 
-raw-low-form : (b : Bool) → cond b 0 1 < 8
-raw-low-form true = omega arith
-raw-low-form false = omega arith
-
 -- The forms are 0 to 7.
 pub form-range : (n : ℕ) (v : List ℕ) → form n v < 8
-form-range n v = ⊎-elim (λ d. rw (d .form-is) (own-low (shapeOf n))) (λ p. rw (p .form-is) (raw-low-form (isPlain n))) (either-way n v)
+form-range n v = ⊎-elim (λ d. rw (d .form-is) (own-low (shapeOf n))) (λ p. omega (arith, p .form-is, raw-low (isPlain n))) (either-way n v)

@@ -7,7 +7,7 @@ use native.Mathlib.Omega.{arith}
 use lib.Dec.{T, leb}
 use borrow.Author.Tests.{le-leb, lt-leb, leb-true}
 use lib.ListN.{length, length-map}
-use Rattle.meaning.proofs.Tests.{parts, both}
+use Rattle.meaning.proofs.Tests.{parts, both, left-or}
 use Rattle.meaning.specs.Octets.{between, all, Octets, pack, unpack, packedLength, isDigit, isHex, digitValue, digitText, values, text}
 
 -- each is a half octet
@@ -111,11 +111,7 @@ hex-back x t = go (leb 48 x) (leb x 57) (leb 65 x) (leb x 70) refl refl refl ref
     go false false false d p q r s t = absurd t
 
 digit-hex : (x : ℕ) → T (isDigit x) → T (isHex x)
-digit-hex x t = go (isDigit x) (between 65 70 x) t
-  where
-    go : (a b : Bool) → T a → T (a || b)
-    go true b t = tt
-    go false b t = absurd t
+digit-hex x t = left-or (isDigit x) (between 65 70 x) t
 
 -- Decimal digits are hexadecimal digits.
 pub digits-hexes : (v : List ℕ) → T (all isDigit v) → Hexes v
@@ -127,6 +123,10 @@ digits-hexes (x ∷ v) t =
 pub values-length : (v : List ℕ) → length (values v) ≡ length v
 unfolding values
 values-length v = length-map v digitValue
+
+-- digits take half as many octets, rounded up
+pub packed-values : (v : List ℕ) → length (pack (values v)) ≡ packedLength (length v)
+packed-values v = pack-length (values v) ∙ ap packedLength (values-length v)
 
 pub values-halves : (v : List ℕ) → Hexes v → Halves (values v)
 unfolding values

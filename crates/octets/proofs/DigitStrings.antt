@@ -9,7 +9,7 @@ use lib.Dec.{T}
 use lib.ListN.{length, take, replicate}
 use Rattle.meaning.specs.Octets.{between, all, isDigit, values, pack, packedLength}
 use Rattle.meaning.specs.Answers.{over}
-use Rattle.meaning.proofs.Packing.{pack-length, values-length, values-halves, digits-hexes}
+use Rattle.meaning.proofs.Packing.{values-length, packed-values, values-halves, digits-hexes}
 use Rattle.meaning.proofs.Tests.{passes, is-true}
 use Rattle.octets.specs.declared.Got.{Got}
 use Rattle.octets.specs.DigitStrings.{halves, padded, digitsOf, noDigits, gotOf, heldOf, packedOf}
@@ -77,5 +77,5 @@ module _ (l : List ℕ) (some : 1 ≤ length l) (few : length l ≤ 15) (t : T (
   pub packed-as-stored : take (packedLength (length l)) (packedOf (gotOf l .digits) .octets) ≡ pack (values l)
   unfolding packedOf digitsOf padded
   packed-as-stored =
-      let n : packedLength (length l) ≡ length (pack (values l)) = sym (pack-length (values l) ∙ ap packedLength (values-length l)) in
+      let n : packedLength (length l) ≡ length (pack (values l)) = sym (packed-values l) in
       rw (got-digits l some few t) (rw (held-values, n) (over-front (pack (values l)) (replicate 8 0)))

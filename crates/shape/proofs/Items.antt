@@ -8,12 +8,12 @@ use native.Mathlib.Omega.{arith}
 use lib.Dec.{T, eqb, leb, eqb→eq, leb→le}
 use borrow.Author.Tests.{eq-eqb, le-leb}
 use lib.ListN.{length, drop, getD, length-drop}
-use Rattle.meaning.specs.Octets.{all, isHex, numberOf, digitValue, values, pack, packedLength}
+use Rattle.meaning.specs.Octets.{all, isHex, numberOf, digitValue, packedLength}
 use Rattle.meaning.specs.Framing.{isPlain}
 use Rattle.meaning.specs.Shapes.{Shape, number, address, digits, hexadecimal, qos, shapeOf, meets}
 use Rattle.meaning.specs.Sheet.{formOf, form, count, stored}
 use Rattle.meaning.proofs.Tests.{parts, passes}
-use Rattle.meaning.proofs.Packing.{pack-length, values-length}
+use Rattle.meaning.proofs.Packing.{packed-values}
 use Rattle.meaning.proofs.Forms.{raw-not-4}
 use Rattle.octets.specs.declared.Got.{Got}
 use Rattle.octets.specs.Parts.{partOf}
@@ -29,9 +29,6 @@ use Rattle.shape.specs.Items.{valueBy, digitsBy, undigited, rawItem, ite
 use Rattle.shape.proofs.Codes.{fifteen, at-most-fifteen, Past, ownForms, no-form}
 use Rattle.shape.proofs.Meeting.{digits-all}
 use Rattle.shape.proofs.Formed.{One, Formed, formed-as, form-own, form-raw, own-form, code-shape, form-without, form-missed, form-met}
-
-packed-values : (v : List ℕ) → length (pack (values v)) ≡ packedLength (length v)
-packed-values v = pack-length (values v) ∙ ap packedLength (values-length v)
 
 -- a value that stands as it is is stored so
 stored-raw : (b : Bool) (c : ℕ) (v s : List ℕ) → Formed c (cond b 0 1) v s → s ≡ v
