@@ -3,19 +3,20 @@ use mathlib.Core.Path.{_≡_, refl, ap, ap₂, _∙_}
 use mathlib.Core.Logic.{inl, inr}
 use mathlib.Core.Bool.{Bool, true, false, not, _&&_, _||_, or-false}
 use mathlib.Core.List.{List, _++_}
-use Prim.Native.Nat.{ℕ, _<_}
+use Prim.Native.Nat.{ℕ, _+_, _≤_, _<_}
 use native.Mathlib.Omega.{arith}
 use lib.Dec.{eqb}
 use lib.ListN.{length, getD}
 use Rattle.meaning.specs.Octets.{isIn}
 use Rattle.meaning.specs.Framing.{gpp}
 use Rattle.meaning.specs.Presence.{conditional, codeDemands, codeWants}
-use Rattle.meaning.specs.Breaches.{Among, entry, asksPdpType, lacking, wanting, atEnd}
+use Rattle.meaning.specs.Breaches.{Among, entry, asksPdpType, chosen, lacking, wanting, atEnd}
 use Rattle.meaning.proofs.Tests.{passes}
 use Rattle.meaning.proofs.Presence.{code-demands, code-wants}
 use Rattle.meaning.proofs.Breaches.{conditionals, conditional-among}
 use Rattle.breach.specs.Table.{Known, Row}
-use Rattle.breach.specs.Lists.{Seen, lacksBy, wantsBy, lackingIn, wantingIn}
+use Rattle.breach.specs.Lists.{Laid, Seen, lacksBy, wantsBy, lackingFirst, lackingThen, lackingIn, wantingFirst, wantingThen, wantingIn}
+use Rattle.breach.proofs.Laying.{chosen-few}
 use Rattle.breach.proofs.Rows.{known-kind}
 
 -- 4 is no number whose condition is named by flags
@@ -65,7 +66,7 @@ module _ (kind flags place : ℕ) (codes : List ℕ) (seen : List Bool) (numbers
 
   -- What the code lays at the end is what the meaning has there.
   pub end-meant : lackingIn kind codes seen place ++ wantingIn kind flags codes seen place ≡ atEnd kind flags place numbers
-  unfolding lackingIn wantingIn atEnd
+  unfolding lackingFirst lackingThen lackingIn wantingFirst wantingThen wantingIn atEnd
   end-meant =
       let a = lacks-meant 1 (omega arith) in
       let b = lacks-meant 8 (omega arith) in
@@ -83,5 +84,14 @@ module _ (kind flags place : ℕ) (codes : List ℕ) (seen : List Bool) (numbers
 
 -- rules 5 and 6 have six candidates
 pub lacking-six : (kind : ℕ) (codes : List ℕ) (seen : List Bool) (place : ℕ) → length (lackingIn kind codes seen place) ≡ 6
-unfolding lackingIn
+unfolding lackingFirst lackingThen lackingIn
 lacking-six kind codes seen place = refl
+
+-- the first of these are three at most
+pub lacking-low : (kind : ℕ) (codes : List ℕ) (seen : List Bool) (place at said : ℕ) (d held : List ℕ) → Laid (chosen (lackingFirst kind codes seen place)) d at said held → said ≤ at + 3
+unfolding lackingFirst
+lacking-low kind codes seen place at said d held p = omega (arith, p .counts, chosen-few (lackingFirst kind codes seen place))
+
+pub wanting-low : (flags : ℕ) (codes : List ℕ) (seen : List Bool) (place at said : ℕ) (d held : List ℕ) → Laid (chosen (wantingFirst flags codes seen place)) d at said held → said ≤ at + 3
+unfolding wantingFirst
+wanting-low flags codes seen place at said d held p = omega (arith, p .counts, chosen-few (wantingFirst flags codes seen place))

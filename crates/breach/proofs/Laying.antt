@@ -99,6 +99,11 @@ chosen-append (c ∷ cs) ds = go (c .stands) (chosen-append cs ds)
     go true e = ap (λ (l : List ℕ). c .key ∷ l) e
     go false e = e
 
+-- what is chosen of some candidates, and then of others
+pub chosen-both : (cs ds : List Candidate) (d first held : List ℕ) (at between said : ℕ) → Laid (chosen cs) d at between first → Laid (chosen ds) first between said held → Laid (chosen (cs ++ ds)) d at said held
+chosen-both cs ds d first held at between said p q =
+    rw (chosen-append cs ds) (laid-then (chosen cs) (chosen ds) d first held at between said p q)
+
 -- no more are chosen than there are
 pub chosen-few : (cs : List Candidate) → length (chosen cs) ≤ length cs
 unfolding chosen

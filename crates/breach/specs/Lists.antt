@@ -82,27 +82,39 @@ abbrev pub wantsBy : (flags : ℕ) (codes : List ℕ) (seen : List Bool) (place 
 wantsBy flags codes seen place n =
     record { key = entry place 7 n; stands = codeWants (getD codes n 0) flags (getD seen 32 false) && not (getD seen n false) }
 
--- rules 5 and 6 at the end
-unfoldable pub lackingIn : (kind : ℕ) (codes : List ℕ) (seen : List Bool) (place : ℕ) → List Candidate
-lackingIn kind codes seen place =
+-- rule 5 at the end, and rule 6 for 1 and 8
+unfoldable pub lackingFirst : (kind : ℕ) (codes : List ℕ) (seen : List Bool) (place : ℕ) → List Candidate
+lackingFirst kind codes seen place =
     record { key = entry place 5 3; stands = eqb kind 1 && (getD seen 2 false && getD seen 3 false) }
     ∷ lacksBy codes seen place 1
     ∷ lacksBy codes seen place 8
-    ∷ lacksBy codes seen place 30
-    ∷ lacksBy codes seen place 40
-    ∷ lacksBy codes seen place 44
+    ∷ []
+
+-- rule 6 for 30, 40 and 44
+unfoldable pub lackingThen : (codes : List ℕ) (seen : List Bool) (place : ℕ) → List Candidate
+lackingThen codes seen place =
+    lacksBy codes seen place 30 ∷ lacksBy codes seen place 40 ∷ lacksBy codes seen place 44 ∷ []
+
+-- rules 5 and 6 at the end
+unfoldable pub lackingIn : (kind : ℕ) (codes : List ℕ) (seen : List Bool) (place : ℕ) → List Candidate
+lackingIn kind codes seen place = lackingFirst kind codes seen place ++ lackingThen codes seen place
+
+-- rule 7 at the end for 2, 3 and 4
+unfoldable pub wantingFirst : (flags : ℕ) (codes : List ℕ) (seen : List Bool) (place : ℕ) → List Candidate
+wantingFirst flags codes seen place =
+    wantsBy flags codes seen place 2 ∷ wantsBy flags codes seen place 3 ∷ wantsBy flags codes seen place 4 ∷ []
+
+-- and for 25, 3GPP 3 and 60
+unfoldable pub wantingThen : (kind flags : ℕ) (codes : List ℕ) (seen : List Bool) (place : ℕ) → List Candidate
+wantingThen kind flags codes seen place =
+    wantsBy flags codes seen place 25
+    ∷ record { key = entry place 7 (gpp 3); stands = asksPdpType kind && (getD seen 7 false && not (getD seen (gpp 3) false)) }
+    ∷ wantsBy flags codes seen place 60
     ∷ []
 
 -- rule 7 at the end
 unfoldable pub wantingIn : (kind flags : ℕ) (codes : List ℕ) (seen : List Bool) (place : ℕ) → List Candidate
-wantingIn kind flags codes seen place =
-    wantsBy flags codes seen place 2
-    ∷ wantsBy flags codes seen place 3
-    ∷ wantsBy flags codes seen place 4
-    ∷ wantsBy flags codes seen place 25
-    ∷ record { key = entry place 7 (gpp 3); stands = asksPdpType kind && (getD seen 7 false && not (getD seen (gpp 3) false)) }
-    ∷ wantsBy flags codes seen place 60
-    ∷ []
+wantingIn kind flags codes seen place = wantingFirst flags codes seen place ++ wantingThen kind flags codes seen place
 
 -- ---- The whole
 

@@ -17,7 +17,7 @@ ghost use Rattle.meaning.specs.Breaches.{entry, onceOnly, asksPdpType, chosen, 
 ghost use Rattle.meaning.specs.Breaches as meant;
 ghost use Rattle.meaning.specs.Answers.{listOf};
 ghost use Rattle.breach.specs.Table.{Known, Presence, Row};
-ghost use Rattle.breach.specs.Lists.{Laid, Put, PutOf, searchEnd, repeats, Noted, brokenBy, lacksBy, wantsBy, lackingIn, wantingIn, Ready, Passed, Admitted};
+ghost use Rattle.breach.specs.Lists.{Laid, Put, PutOf, searchEnd, repeats, Noted, brokenBy, lacksBy, wantsBy, lackingFirst, lackingThen, lackingIn, wantingFirst, wantingThen, wantingIn, Ready, Passed, Admitted};
 ghost use Rattle.breach.specs.Answers.{Checked};
 
 mod tables;
@@ -327,6 +327,40 @@ fn put_wanting(
     )
 }
 
+// Lays what the end breaks by rule 5, and by rule 6 for 1 and 8.
+fn lacking_first(
+    list: &mut [u32],
+    at: usize,
+    codes: &[u8],
+    seen: &[bool; 512],
+    kind: u32,
+    place: usize,
+) -> usize
+    requires { ⌜ (at < 65000) × (place ≤ 4076) × (length (now codes) ≡ 256) ⌝ }
+    ensures { λ r. ⌜ Laid (chosen (lackingFirst kind (now (codes .entry)) (now (seen .entry)) place)) (now (list .entry)) at r (now (list .exit)) ⌝ }
+{
+    let both = (kind == 1) & (seen[2] & seen[3]);
+    let first = put(list, at, both, place, 5, 3);
+    let second = put_lacking(list, first, codes, seen, place, 1);
+    put_lacking(list, second, codes, seen, place, 8)
+}
+
+// Lays what the end breaks by rule 6 for 30, 40 and 44.
+fn lacking_then(
+    list: &mut [u32],
+    at: usize,
+    codes: &[u8],
+    seen: &[bool; 512],
+    place: usize,
+) -> usize
+    requires { ⌜ (at < 65000) × (place ≤ 4076) × (length (now codes) ≡ 256) ⌝ }
+    ensures { λ r. ⌜ Laid (chosen (lackingThen (now (codes .entry)) (now (seen .entry)) place)) (now (list .entry)) at r (now (list .exit)) ⌝ }
+{
+    let first = put_lacking(list, at, codes, seen, place, 30);
+    let second = put_lacking(list, first, codes, seen, place, 40);
+    put_lacking(list, second, codes, seen, place, 44)
+}
+
 // Lays what the end breaks by rules 5 and 6.
 fn at_end_lacking(
     list: &mut [u32],
@@ -339,13 +373,44 @@ fn at_end_lacking(
     requires { ⌜ (at < 60000) × (place ≤ 4076) × (length (now codes) ≡ 256) ⌝ }
     ensures { λ r. ⌜ Laid (chosen (lackingIn kind (now (codes .entry)) (now (seen .entry)) place)) (now (list .entry)) at r (now (list .exit)) ⌝ }
 {
-    let both = (kind == 1) & (seen[2] & seen[3]);
-    let first = put(list, at, both, place, 5, 3);
-    let second = put_lacking(list, first, codes, seen, place, 1);
-    let third = put_lacking(list, second, codes, seen, place, 8);
-    let fourth = put_lacking(list, third, codes, seen, place, 30);
-    let fifth = put_lacking(list, fourth, codes, seen, place, 40);
-    put_lacking(list, fifth, codes, seen, place, 44)
+    let next = lacking_first(list, at, codes, seen, kind, place);
+    lacking_then(list, next, codes, seen, place)
+}
+
+// Lays what the end breaks by rule 7 for 2, 3 and 4.
+fn wanting_first(
+    list: &mut [u32],
+    at: usize,
+    codes: &[u8],
+    seen: &[bool; 512],
+    flags: u32,
+    place: usize,
+) -> usize
+    requires { ⌜ (at < 65000) × (place ≤ 4076) × (length (now codes) ≡ 256) ⌝ }
+    ensures { λ r. ⌜ Laid (chosen (wantingFirst flags (now (codes .entry)) (now (seen .entry)) place)) (now (list .entry)) at r (now (list .exit)) ⌝ }
+{
+    let first = put_wanting(list, at, codes, seen, flags, place, 2);
+    let second = put_wanting(list, first, codes, seen, flags, place, 3);
+    put_wanting(list, second, codes, seen, flags, place, 4)
+}
+
+// Lays what the end breaks by rule 7 for 25, 3GPP 3 and 60.
+fn wanting_then(
+    list: &mut [u32],
+    at: usize,
+    codes: &[u8],
+    seen: &[bool; 512],
+    kind: u32,
+    flags: u32,
+    place: usize,
+) -> usize
+    requires { ⌜ (at < 65000) × (place ≤ 4076) × (length (now codes) ≡ 256) ⌝ }
+    ensures { λ r. ⌜ Laid (chosen (wantingThen kind flags (now (codes .entry)) (now (seen .entry)) place)) (now (list .entry)) at r (now (list .exit)) ⌝ }
+{
+    let protocol = asks_pdp_type(kind) & (seen[7] & !seen[259]);
+    let first = put_wanting(list, at, codes, seen, flags, place, 25);
+    let second = put(list, first, protocol, place, 7, 259);
+    put_wanting(list, second, codes, seen, flags, place, 60)
 }
 
 // Lays what the end breaks by rule 7, rising: 3GPP 3 stands between 25 and 60.
@@ -361,13 +426,8 @@ fn at_end_wanting(
     requires { ⌜ (at < 60000) × (place ≤ 4076) × (length (now codes) ≡ 256) ⌝ }
     ensures { λ r. ⌜ Laid (chosen (wantingIn kind flags (now (codes .entry)) (now (seen .entry)) place)) (now (list .entry)) at r (now (list .exit)) ⌝ }
 {
-    let protocol = asks_pdp_type(kind) & (seen[7] & !seen[259]);
-    let first = put_wanting(list, at, codes, seen, flags, place, 2);
-    let second = put_wanting(list, first, codes, seen, flags, place, 3);
-    let third = put_wanting(list, second, codes, seen, flags, place, 4);
-    let fourth = put_wanting(list, third, codes, seen, flags, place, 25);
-    let fifth = put(list, fourth, protocol, place, 7, 259);
-    put_wanting(list, fifth, codes, seen, flags, place, 60)
+    let next = wanting_first(list, at, codes, seen, flags, place);
+    wanting_then(list, next, codes, seen, kind, flags, place)
 }
 
 // Passes over an area: lays the entries of its breaches into the list, as many as it has room for, and counts them all.
