@@ -1,6 +1,6 @@
 -- Rule 3's search: a walk from the area's start over the attributes before a place. Assumes nothing.
 use mathlib.Core.Path.{_≡_, refl, sym, ap, ap₂, _∙_}
-use mathlib.Core.Bool.{Bool, true, false, cond, _&&_}
+use mathlib.Core.Bool.{Bool, true, false, cond, _&&_, and-false}
 use mathlib.Core.List.{List, [], _∷_, _++_}
 use Prim.Native.Nat.{ℕ, _≤_, _<_}
 use native.Mathlib.Omega.{arith}
@@ -65,10 +65,6 @@ looking-start l repeated n seen place end e r fresh = rw e (go repeated (onceOnl
     go true true p o = record { seen = seen; reached = r; rest = seen; ahead = r; left = rw o }
     go true false p o = nothing (rw o)
     go false b p o = nothing (ap (λ (x : Bool). onceOnly n && x) (fresh p) ∙ and-false (onceOnly n))
-      where
-        and-false : (x : Bool) → x && false ≡ false
-        and-false true = refl
-        and-false false = refl
 
 module _ (l : List ℕ) (n place end before : ℕ) (k : Looking l n place end before) where
   -- what the search finds is said of any numbers that the walk to the place passes

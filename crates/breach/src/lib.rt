@@ -1,5 +1,5 @@
-// The check: the list of an attribute area's breaches. Two passes over the area: the first only counts the entries, the second lays
-// them into the list.
+// The check: the list of an attribute area's breaches. The framing is tested first and the numbers are noted; then one pass over the
+// area only counts the entries, and another lays them into the list.
 use area::Framing;
 use area::Refusal;
 ghost use mathlib.Core.Path.{_≡_};

@@ -1,6 +1,5 @@
 -- `sheet::fill` meets its contract. Assumes nothing.
 use borrow.Author.Needs.{needs}
-use native.Mathlib.Omega.{arith}
 use Rattle.area.proofs.Steps.{slice-octets}
 use Rattle.sheet.proofs.Whole.{bounded, admitted-sound, sheet-laid}
 use Rattle.sheet.proofs.fill.Statement.{statement}
