@@ -107,7 +107,7 @@ abbrev pub Past : (before : Type 0) (code : ℕ) → List ℕ → Type 0
 Past before c [] = before
 Past before c (x ∷ l) = Past (before × (c ≡ x → ⊥)) c l
 
-past-before : (before : Type 0) (c : ℕ) (l : List ℕ) → Past before c l → before
+pub past-before : (before : Type 0) (c : ℕ) (l : List ℕ) → Past before c l → before
 past-before before c [] p = p
 past-before before c (x ∷ l) p = past-before (before × (c ≡ x → ⊥)) c l p .0
 

@@ -3,18 +3,18 @@ use mathlib.Core.Path.{_≡_, refl, sym, ap, _∙_}
 use mathlib.Core.Logic.{⊎-elim}
 use mathlib.Core.Bool.{Bool, true, false, cond, and-false}
 use mathlib.Core.List.{List, [], _∷_}
-use Prim.Native.Nat.{ℕ, _+_, _*_, _/_, _%_, _<_, _≤_}
+use Prim.Native.Nat.{ℕ, _+_, _-_, _*_, _/_, _%_, _<_, _≤_}
 use native.Mathlib.Nat.{mod-eq-of-lt}
 use native.Mathlib.Omega.{arith}
 use lib.Dec.{T, eqb, leb, eqb→eq, leb→le}
 use borrow.Author.Tests.{lt-leb, le-leb}
-use lib.ListN.{length, drop, getD}
-use Rattle.meaning.specs.Octets.{between, all, isDigit, isHex, digitValue, values, pack}
+use lib.ListN.{length, drop, getD, length-drop}
+use Rattle.meaning.specs.Octets.{between, all, isDigit, isHex, digitValue, values, pack, packedLength}
 use Rattle.meaning.specs.Framing.{isPlain}
 use Rattle.meaning.specs.Shapes.{Shape, number, address, digits, hexadecimal, qos, hexDigit, anyOctet, decimalDigit, atLeast, exactly, blocks, free, shapeOf, release, meets}
 use Rattle.meaning.specs.Sheet.{formOf, storedOf, decodes, form, stored}
 use Rattle.meaning.proofs.Tests.{parts, either}
-use Rattle.meaning.proofs.Packing.{Hexes, digits-hexes, values-halves}
+use Rattle.meaning.proofs.Packing.{Hexes, digits-hexes, values-halves, packed-values}
 use Rattle.meaning.proofs.Forms.{released, either-way}
 use Rattle.shape.specs.Codes.{codeOf, shapeBy}
 use Rattle.shape.proofs.Codes.{shape-back, form-in-code, fifteen, at-most-fifteen}
@@ -161,3 +161,14 @@ formed n v =
 
 pub formed-as : (n : ℕ) (v : List ℕ) (f : ℕ) → form n v ≡ f → Formed (codeOf (shapeOf n)) f v (stored n v)
 formed-as n v f e = rw e at (formed n v)
+
+-- ---- How many octets are stored
+
+module _ (n : ℕ) (v : List ℕ) where
+  -- of hexadecimal text
+  pub text-size : form n v ≡ 5 → length (stored n v) ≡ packedLength (length v)
+  text-size e = ap length (formed-as n v 5 e .packed) ∙ packed-values v
+
+  -- of a QoS profile
+  pub profile-size : form n v ≡ 6 → length (stored n v) ≡ 1 + packedLength (length v - 3)
+  profile-size e = omega (arith, ap length (formed-as n v 6 e .packed), packed-values (drop 3 v), length-drop 3 v)

@@ -7,13 +7,12 @@ use Prim.Native.Nat.{ℕ, _+_, _-_, _/_, _%_, _<_, _≤_}
 use native.Mathlib.Omega.{arith}
 use lib.Dec.{T, eqb, leb, eqb→eq, leb→le}
 use borrow.Author.Tests.{eq-eqb, le-leb}
-use lib.ListN.{length, drop, getD, length-drop}
+use lib.ListN.{length, getD}
 use Rattle.meaning.specs.Octets.{all, isHex, numberOf, digitValue, packedLength}
 use Rattle.meaning.specs.Framing.{isPlain}
 use Rattle.meaning.specs.Shapes.{Shape, number, address, digits, hexadecimal, qos, shapeOf, meets}
 use Rattle.meaning.specs.Sheet.{formOf, form, count, stored}
 use Rattle.meaning.proofs.Tests.{parts, passes}
-use Rattle.meaning.proofs.Packing.{packed-values}
 use Rattle.meaning.proofs.Forms.{raw-not-4}
 use Rattle.octets.specs.declared.Got.{Got}
 use Rattle.octets.specs.Parts.{partOf}
@@ -28,7 +27,7 @@ use Rattle.shape.specs.Codes.{codeOf, shapeBy}
 use Rattle.shape.specs.Items.{valueBy, digitsBy, undigited, rawItem, itemFor, itemAt}
 use Rattle.shape.proofs.Codes.{fifteen, at-most-fifteen, Past, ownForms, no-form}
 use Rattle.shape.proofs.Meeting.{digits-all}
-use Rattle.shape.proofs.Formed.{One, Formed, formed-as, form-own, form-raw, own-form, code-shape, form-without, form-missed, form-met}
+use Rattle.shape.proofs.Formed.{One, Formed, formed-as, form-own, form-raw, own-form, code-shape, form-without, form-missed, form-met, text-size, profile-size}
 
 -- a value that stands as it is is stored so
 stored-raw : (b : Bool) (c : ℕ) (v s : List ℕ) → Formed c (cond b 0 1) v s → s ≡ v
@@ -104,7 +103,7 @@ module _ (n : ℕ) (v : List ℕ) (p : Part) where
   item-hexadecimal e m =
       let f : form n v ≡ 5 = form-own n v hexadecimal e (omega arith) m in
       let l : length v ≡ 16 = eqb→eq (length v) 16 (parts (eqb (length v) 16) (all isHex v) (passes _ m) .0) in
-      undigited-is 5 8 (is.Plain p) f refl (ap length (formed-as n v 5 f .packed) ∙ packed-values v ∙ ap packedLength l) refl
+      undigited-is 5 8 (is.Plain p) f refl (text-size n v f ∙ ap packedLength l) refl
 
   module _ (shape-is : shapeOf n ≡ qos) (met : meets qos v ≡ true) where
     profiled : form n v ≡ 6
@@ -119,7 +118,7 @@ module _ (n : ℕ) (v : List ℕ) (p : Part) where
     unfolding valueBy
     item-qos k ks =
         undigited-is 6 (1 + k) (is.Plain p) profiled refl
-        (omega (arith, ks, ap length (formed-as n v 6 profiled .packed), packed-values (drop 3 v), length-drop 3 v)) refl
+        (omega (arith, ks, profile-size n v profiled)) refl
 
   -- ---- One octet
 
@@ -142,14 +141,13 @@ module _ (n : ℕ) (v : List ℕ) (p : Part) where
       item-octet x xs =
           undigited-is 7 1 (is.Number x) single refl (ap length (told .octet)) (rw (told .octet) (ap is.Number (omega (arith, xs))))
 
--- the octets v are the part p of the area
-module _ (area : List ℕ) (n : ℕ) (p : Part) (v : List ℕ) (part-is : v ≡ partOf area (p .start) (p .len)) where
-  pub item-there : itemFor n v p ≡ itemAt area n p
-  unfolding itemAt
-  item-there = rw part-is
+-- a number whose code no arm has
+pub item-raw : (n : ℕ) (v : List ℕ) (p : Part) (code : ℕ) → code ≡ codeOf (shapeOf n) → Past (Unit {0}) code (map codeOf ownForms) → rawItem n (length v) p ≡ itemFor n v p
+item-raw n v p code code-is w =
+    let none : formOf (shapeOf n) ≡ 0 = rw (code-shape n code code-is) at (no-form code w) in
+    raw-is n v p (form-without n v code code-is (omega (arith, none, own-form n code code-is)))
 
-  -- a number whose code no arm has
-  pub item-raw : (code : ℕ) → code ≡ codeOf (shapeOf n) → Past (Unit {0}) code (map codeOf ownForms) → rawItem n (length v) p ≡ itemAt area n p
-  item-raw code code-is w =
-      let none : formOf (shapeOf n) ≡ 0 = rw (code-shape n code code-is) at (no-form code w) in
-      raw-is n v p (form-without n v code code-is (omega (arith, none, own-form n code code-is))) ∙ item-there
+-- the octets v are the part p of the area
+pub item-there : (area : List ℕ) (n : ℕ) (p : Part) (v : List ℕ) → v ≡ partOf area (p .start) (p .len) → itemFor n v p ≡ itemAt area n p
+unfolding itemAt
+item-there area n p v part-is = rw part-is

@@ -1,5 +1,5 @@
-pub mod Coded
 pub mod Codes
+pub mod Coded
 pub mod Meeting
 pub mod Formed
 pub mod Items

@@ -1,10 +1,9 @@
 -- Codes for the shapes of document 01: the tens of a code are the form of the shape, 0 where it has none of
 -- its own, and the ones tell the shapes of one form apart. Assumes nothing.
 use Prim.Native.Nat.{ℕ}
-use mathlib.Core.Bool.{Bool, cond, _||_}
+use mathlib.Core.Bool.{cond}
 use mathlib.Core.List.{List, [], _∷_}
 use lib.Dec.{eqb}
-use Rattle.meaning.specs.Octets.{isIn, between}
 use Rattle.meaning.specs.Shapes.{Shape, number, address, digits, hexadecimal, qos, hexDigit, anyOctet, decimalDigit, atLeast, exactly, blocks, free}
 
 -- the code of a shape
@@ -35,29 +34,3 @@ shapeAmong (s ∷ l) code = cond (eqb code (codeOf s)) s (shapeAmong l code)
 -- the shape of a code
 unfoldable pub shapeBy : ℕ → Shape
 shapeBy = shapeAmong shapes
-
--- ---- Which numbers have which shape, where a line names several
-
--- "Form 2, four octets: 6, 7, 40 to 43, 45 to 49, 61"
-unfoldable pub isNumber : (type : ℕ) → Bool
-isNumber t = isIn t (6 ∷ 7 ∷ []) || (between 40 43 t || (between 45 49 t || eqb t 61))
-
--- "Form 3, four octets: 4, 8, 9"
-unfoldable pub isAddress : (type : ℕ) → Bool
-isAddress t = isIn t (4 ∷ 8 ∷ 9 ∷ [])
-
--- "1, 18, 24, 25, 30, 32 at least 1 octet"
-unfoldable pub isText : (type : ℕ) → Bool
-isText t = isIn t (1 ∷ 18 ∷ 24 ∷ 25 ∷ 30 ∷ 32 ∷ [])
-
--- 3GPP, "2 and 3: form 2"
-unfoldable pub isGppNumber : (sub : ℕ) → Bool
-isGppNumber s = isIn s (2 ∷ 3 ∷ [])
-
--- 3GPP, "4, 6, 7: form 3"
-unfoldable pub isGppAddress : (sub : ℕ) → Bool
-isGppAddress s = isIn s (4 ∷ 6 ∷ 7 ∷ [])
-
--- 3GPP, "8, 9, 18: form 4, 5 or 6 digits"
-unfoldable pub isNetworkCode : (sub : ℕ) → Bool
-isNetworkCode s = isIn s (8 ∷ 9 ∷ 18 ∷ [])

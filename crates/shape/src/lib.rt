@@ -9,9 +9,9 @@ ghost use Rattle.meaning.specs.Octets.{all, isHex, digitValue};
 ghost use Rattle.meaning.specs.Shapes.{digits, qos, plainShape, gppShape, shapeOf, release};
 ghost use Rattle.meaning.specs.Shapes as meant;
 ghost use Rattle.meaning.specs.Framing.{isPlain};
-ghost use Rattle.meaning.specs.Sheet.{form, storedLength};
-ghost use Rattle.shape.specs.Codes.{codeOf, shapeBy, isNumber, isAddress, isText, isGppNumber, isGppAddress, isNetworkCode};
-ghost use Rattle.shape.specs.Items.{undigited, rawItem, itemFor, itemAt};
+ghost use Rattle.meaning.specs.Sheet.{form, stored, storedLength};
+ghost use Rattle.shape.specs.Codes.{codeOf, shapeBy};
+ghost use Rattle.shape.specs.Items.{undigited, rawItem, itemFor};
 
 // "An item's value is either a number, an address, digits or plain octets": plain octets as a part of the area; the digits stand
 // beside it.
@@ -32,108 +32,61 @@ pub struct Item {
     pub digits: octets::Digits,
 }
 
-// "Form 2, four octets: 6, 7, 40 to 43, 45 to 49, 61".
-fn is_plain_number(t: u16) -> bool
-    ensures { λ r. ⌜ r ≡ isNumber t ⌝ }
-{
-    ((t == 6) | (t == 7)) | (((40 <= t) & (t <= 43)) | (((45 <= t) & (t <= 49)) | (t == 61)))
-}
-
-// "Form 3, four octets: 4, 8, 9".
-fn is_plain_address(t: u16) -> bool
-    ensures { λ r. ⌜ r ≡ isAddress t ⌝ }
-{
-    (t == 4) | ((t == 8) | (t == 9))
-}
-
-// "1, 18, 24, 25, 30, 32 at least 1 octet".
-fn is_plain_text(t: u16) -> bool
-    ensures { λ r. ⌜ r ≡ isText t ⌝ }
-{
-    (t == 1) | ((t == 18) | ((t == 24) | ((t == 25) | ((t == 30) | (t == 32)))))
-}
-
 // The code of a plain number's shape.
 fn plain_code(t: u16) -> u8
     ensures { λ r. ⌜ r ≡ codeOf (plainShape t) ⌝ }
 {
-    if is_plain_number(t) {
-        return 20;
+    match t {
+        1 => 1,
+        2 => 4,
+        3 => 3,
+        4 => 30,
+        6 => 20,
+        7 => 20,
+        8 => 30,
+        9 => 30,
+        18 => 1,
+        24 => 1,
+        25 => 1,
+        30 => 1,
+        31 => 40,
+        32 => 1,
+        40 => 20,
+        41 => 20,
+        42 => 20,
+        43 => 20,
+        44 => 50,
+        45 => 20,
+        46 => 20,
+        47 => 20,
+        48 => 20,
+        49 => 20,
+        60 => 2,
+        61 => 20,
+        _ => 0,
     }
-    if is_plain_address(t) {
-        return 30;
-    }
-    if t == 31 {
-        return 40;
-    }
-    if t == 44 {
-        return 50;
-    }
-    if is_plain_text(t) {
-        return 1;
-    }
-    if t == 2 {
-        return 4;
-    }
-    if t == 3 {
-        return 3;
-    }
-    if t == 60 {
-        return 2;
-    }
-    0
-}
-
-// 3GPP, "2 and 3: form 2".
-fn is_gpp_number(s: u16) -> bool
-    ensures { λ r. ⌜ r ≡ isGppNumber s ⌝ }
-{
-    (s == 2) | (s == 3)
-}
-
-// 3GPP, "4, 6, 7: form 3".
-fn is_gpp_address(s: u16) -> bool
-    ensures { λ r. ⌜ r ≡ isGppAddress s ⌝ }
-{
-    (s == 4) | ((s == 6) | (s == 7))
-}
-
-// 3GPP, "8, 9, 18: form 4, 5 or 6 digits".
-fn is_network_code(s: u16) -> bool
-    ensures { λ r. ⌜ r ≡ isNetworkCode s ⌝ }
-{
-    (s == 8) | ((s == 9) | (s == 18))
 }
 
 // The code of a 3GPP number's shape.
 fn gpp_code(s: u16) -> u8
     ensures { λ r. ⌜ r ≡ codeOf (gppShape s) ⌝ }
 {
-    if s == 1 {
-        return 40;
+    match s {
+        1 => 40,
+        2 => 20,
+        3 => 20,
+        4 => 30,
+        5 => 60,
+        6 => 30,
+        7 => 30,
+        8 => 41,
+        9 => 41,
+        10 => 70,
+        11 => 71,
+        12 => 72,
+        18 => 41,
+        _ => 0,
     }
-    if is_gpp_number(s) {
-        return 20;
-    }
-    if is_gpp_address(s) {
-        return 30;
-    }
-    if s == 5 {
-        return 60;
-    }
-    if is_network_code(s) {
-        return 41;
-    }
-    if s == 10 {
-        return 70;
-    }
-    if s == 11 {
-        return 71;
-    }
-    if s == 12 {
-        return 72;
-    }
-    0
 }
 
 // The code of the shape of a carried number, whatever the number. The tens of a code are the form of the shape, 0 where it has none of
@@ -384,11 +337,10 @@ fn octet_item(code: u8, number: u16, v: &[u8], value: area::Part) -> Item
     undigited_item(number, 7, 1, Value::Number(octet_of(code, v[0])))
 }
 
-// The item of a carried number whose value is a part of an area, or as much of the part as the area has.
-pub fn item_of(area: &[u8], number: u16, value: area::Part) -> Item
-    ensures { λ r. ⌜ r ≡ itemAt (now (area .entry)) number value ⌝ }
+// The item of a carried number whose value is a part of an area, with these octets.
+pub fn item_of(v: &[u8], number: u16, value: area::Part) -> Item
+    ensures { λ r. ⌜ r ≡ itemFor number (now (v .entry)) value ⌝ }
 {
-    let v = octets::part(area, value.start, value.len);
     match code_of(number) {
         20 => number_item(number, v, value),
         30 => address_item(number, v, value),
@@ -412,4 +364,18 @@ pub fn stored_len(form: u8, count: usize) -> usize
     } else {
         count
     }
+}
+
+// The octets that are stored of a value of a carried number.
+pub fn stored_size(number: u16, value: &[u8]) -> usize
+    ensures { λ r. ⌜ r ≡ length (stored number (now (value .entry))) ⌝ }
+{
+    let form = form_of(number, value);
+    if form == 5 {
+        return octets::packed_len(value.len());
+    }
+    if form == 6 {
+        return 1 + octets::packed_len(value.len() - 3);
+    }
+    stored_len(form, value.len())
 }

@@ -6,7 +6,7 @@ use Prim.Native.Nat.{ℕ, suc, _+_, _-_, _*_, _%_, _≤_, _<_}
 use native.Mathlib.Omega.{arith}
 use lib.Dec.{eqb}
 use lib.ListN.{length, take, drop, getD, length-append, length-drop}
-use lib.Seq.{take-at, take-all, drop-at, drop-drop, length-take-le}
+use lib.Seq.{take-at, take-all, take-add, drop-at, drop-drop, length-take-le}
 use borrow.Author.Tests.{eq-eqb, ne-eqb, lt-ltb, le-ltb}
 use Rattle.meaning.specs.Octets.{octetsOf, pack, packedLength, digitValue}
 use Rattle.meaning.specs.Answers.{over}
@@ -14,13 +14,13 @@ use Rattle.octets.specs.Parts.{partOf, laidAt}
 use Rattle.octets.specs.DigitStrings.{halves, packedOf}
 use Rattle.octets.specs.declared.Digits.{Digits}
 use Rattle.octets.specs.declared.Packed.{Packed}
-use Rattle.octets.proofs.Overs.{laid-two}
+use Rattle.octets.proofs.Overs.{laid-two, laid-fits, laid-length}
 use Rattle.octets.proofs.Halves.{halves-packed}
 use Rattle.area.specs.declared.Part.{Part}
 use Rattle.shape.specs.declared.Item.{Item}
 use Rattle.shape.specs.declared.Value.the-variants as is
 use Rattle.shape.specs.Items.{storedPart, storedValue, storedIn}
-use Rattle.sheet.specs.Items.{headOf, itemIn, sheetHead, filledBy}
+use Rattle.sheet.specs.Items.{headOf, itemIn, sheetHead}
 
 -- what is laid is one of two things, by a test
 pub laid-if : (b : Bool) (at : ℕ) (s t d out : List ℕ) → b ≡ true → out ≡ laidAt at s d → out ≡ laidAt at (cond b s t) d
@@ -65,6 +65,26 @@ qos-laid v digits release at buf first out r q room f h =
     let m : length (pack (halves (drop 3 v))) ≡ packedLength (length v - 3) = halves-packed (drop 3 v) ∙ ap packedLength (length-drop 3 v) in
     h ∙ rw (f, e, r) (laid-two at 1 (((digitValue (getD v 0 0) * 10 + digitValue (getD v 1 0)) % 256) ∷ []) (pack (halves (drop 3 v))) buf refl (omega arith))
 
+-- A piece laid before another that was laid already: both stand as one.
+laid-before : (at n : ℕ) (s t d : List ℕ) → length s ≡ n → at + (n + length t) ≤ length d → laidAt at s (laidAt (at + n) t d) ≡ laidAt at (s ++ t) d
+unfolding over
+laid-before at n s t d size fits =
+    let front : List ℕ = take at d in
+    let old : List ℕ = take n (drop at d) in
+    let rest : List ℕ = drop (length t) (drop (at + n) d) in
+    let f : length front ≡ at = length-take-le at d (omega arith) in
+    let o : length old ≡ length s = length-take-le n (drop at d) (omega (arith, length-drop at d)) ∙ sym size in
+    let later : laidAt (at + n) t d ≡ front ++ (old ++ (t ++ rest)) =
+    laid-fits (at + n) t d (omega arith) ∙ rw (take-add at n d) (append-assoc front old (t ++ rest)) in
+    let both : n + length t ≡ length (s ++ t) = omega (arith, length-append s t) in
+    let same : rest ≡ drop (length (s ++ t)) (drop at d) =
+    ap (drop (length t)) (sym (drop-drop n at d)) ∙ drop-drop (length t) n (drop at d) ∙ ap (λ (k : ℕ). drop k (drop at d)) both in
+    laid-fits at s (laidAt (at + n) t d) (omega (arith, laid-length (at + n) t d))
+    ∙ rw (later, take-at front (old ++ (t ++ rest)) at f, drop-at front (old ++ (t ++ rest)) at f, drop-at old (t ++ rest) (length s) o)
+    (ap (λ (x : List ℕ). front ++ x) (sym (append-assoc s t rest))
+    ∙ ap (λ (x : List ℕ). front ++ ((s ++ t) ++ x)) same
+    ∙ sym (laid-fits at (s ++ t) d (omega (arith, length-append s t))))
+
 module _ (area : List ℕ) (i : Item) where
   -- an item of each value
   pub number-stored : (n : ℕ) → i .value ≡ is.Number n → storedIn area i ≡ cond (eqb (i .form) 7) ((n % 256) ∷ []) (octetsOf 4 n)
@@ -90,9 +110,9 @@ module _ (area : List ℕ) (i : Item) where
       omega (arith, ap length same)
 
   -- an item is its head and what it stores
-  pub item-laid : (at : ℕ) (head buf first out : List ℕ) → head ≡ headOf i → at + length (itemIn area i) ≤ length buf → first ≡ laidAt at head buf → out ≡ laidAt (at + 4) (storedIn area i) first → out ≡ laidAt at (itemIn area i) buf
+  pub item-laid : (at : ℕ) (head buf first out : List ℕ) → head ≡ headOf i → at + length (itemIn area i) ≤ length buf → first ≡ laidAt (at + 4) (storedIn area i) buf → out ≡ laidAt at head first → out ≡ laidAt at (itemIn area i) buf
   unfolding itemIn headOf
-  item-laid at head buf first out e room f h = h ∙ rw (f, e) (laid-two at 4 (headOf i) (storedIn area i) buf refl (omega arith))
+  item-laid at head buf first out e room f h = h ∙ rw (f, e) (laid-before at 4 (headOf i) (storedIn area i) buf refl (omega arith))
 
   pub item-length : length (itemIn area i) ≡ 4 + length (storedIn area i)
   unfolding itemIn headOf
@@ -106,18 +126,9 @@ pub gpp-head : (i : Item) → 256 ≤ i .number → 26 ∷ (i .number - 256) ∷
 unfolding headOf
 gpp-head i h = rw (le-ltb (i .number) 256 h)
 
--- an item that is to be written has room
-pub item-room : (fill : Bool) (area : List ℕ) (i : Item) (at room : ℕ) → (fill ≡ true → at + length (itemIn area i) ≤ room) → fill ≡ true → at + 4 + length (storedIn area i) ≤ room
-item-room fill area i at room h e = omega (arith, h e, item-length area i)
-
--- a buffer that is filled or left, by a flag
-pub filled : (fill : Bool) (s d out : List ℕ) → fill ≡ true → out ≡ s → out ≡ filledBy fill s d
-unfolding filledBy
-filled fill s d out e h = h ∙ rw e
-
-pub unfilled : (fill : Bool) (s d : List ℕ) → fill ≡ false → d ≡ filledBy fill s d
-unfolding filledBy
-unfilled fill s d e = rw e
+-- an item's stored octets have room where the item has
+pub item-room : (area : List ℕ) (i : Item) (at room : ℕ) → at + length (itemIn area i) ≤ room → at + 4 + length (storedIn area i) ≤ room
+item-room area i at room h = omega (arith, h, item-length area i)
 
 -- the head of a sheet, with the number of items in two octets
 pub head-laid : (kind flags count : ℕ) (many : List ℕ) → many ≡ octetsOf 2 count → 71 ∷ 73 ∷ 82 ∷ 0 ∷ 1 ∷ kind ∷ flags ∷ getD many 0 0 ∷ getD many 1 0 ∷ [] ≡ sheetHead kind flags count

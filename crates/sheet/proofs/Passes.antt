@@ -1,13 +1,12 @@
--- The pass over an area's attributes: what its loop has counted and laid. Assumes nothing.
+-- The passes over an area's attributes: what their loops have counted and laid. Assumes nothing.
 use mathlib.Core.Path.{_≡_, refl, sym, ap, subst, _∙_}
-use mathlib.Core.Bool.{Bool, true, false}
 use mathlib.Core.List.{List, [], _++_, append-assoc, append-nil}
-use Prim.Native.Nat.{ℕ, _+_, _*_, _≤_}
+use Prim.Native.Nat.{ℕ, _+_, _-_, _*_, _≤_}
 use native.Mathlib.Omega.{arith}
-use lib.ListN.{length, drop, length-append, length-drop}
+use lib.ListN.{length, take, drop, length-append, length-drop}
 use lib.Seq.{length-take-le}
 use Rattle.meaning.specs.Octets.{Octets}
-use Rattle.meaning.specs.Framing.{Attribute, Walk, walk, walkAt, attributes}
+use Rattle.meaning.specs.Framing.{Walk, walk, walkAt, attributes}
 use Rattle.meaning.specs.Refusals.{none, fault}
 use Rattle.meaning.specs.Sheet.{stored, item, itemsOf, storedLength, count}
 use Rattle.meaning.specs.Answers.{over}
@@ -21,38 +20,33 @@ use Rattle.area.proofs.Steps.{Stands}
 use Rattle.area.proofs.Carrying.{sound-behind}
 use Rattle.shape.specs.declared.Item.{Item}
 use Rattle.shape.specs.Items.{itemAt, itemFor}
+use Rattle.shape.proofs.Items.{item-there}
 use Rattle.shape.proofs.Stored.{announced-as-meant, item-as-meant}
-use Rattle.sheet.specs.Items.{headOf, itemIn, Small, itemsIn, filledBy, Sound, Passed}
-use Rattle.sheet.proofs.Laying.{filled, unfilled}
+use Rattle.sheet.specs.Items.{headOf, itemIn, Small, itemsIn, Sound, Passed}
 
--- The loop stands at a place and has gone over the attributes before it, whose items it has counted and, where it fills, laid.
-pub record Passing (l : List ℕ) (fill : Bool) (d out : List ℕ) (place written : ℕ) : Type 0 where
+-- The loop stands at a place and has gone over the attributes before it, whose items are so many octets.
+pub record Counted (l : List ℕ) (place counted : ℕ) : Type 0 where
   pub gone : List ℕ
   pub whole : itemsIn l ≡ gone ++ itemsOf (attributes (walkAt l place))
-  pub long : length gone ≡ written
+  pub long : length gone ≡ counted
   pub inside : place ≤ length l
   pub sound : fault (walkAt l place) ≡ none
-  pub few : written ≤ 2 * place
+  pub few : counted ≤ 2 * place
+
+-- The same, where the items are laid over the start of d.
+pub record Passing (l d out : List ℕ) (place written : ℕ) : Type 0 where
+  pub done : Counted l place written
   pub kept : length out ≡ length d
-  pub held : out ≡ filledBy fill (over gone d) d
+  pub held : out ≡ over (done .gone) d
 
-over-nothing : (fill : Bool) (d : List ℕ) → d ≡ filledBy fill (over [] d) d
-over-nothing true d = filled true (over [] d) d d refl (sym (over-none d))
-over-nothing false d = unfilled false (over [] d) d refl
-
-pub passing-none : (l : List ℕ) (fill : Bool) (d : List ℕ) → Sound l → Passing l fill d d 0 0
+pub counted-none : (l : List ℕ) → Sound l → Counted l 0 0
 unfolding itemsIn walk
-passing-none l fill d s =
-    record {
-      gone = [];
-      whole = refl;
-      long = refl;
-      inside = omega arith;
-      sound = s .faultless;
-      few = omega arith;
-      kept = refl;
-      held = over-nothing fill d;
-    }
+counted-none l s =
+    record { gone = []; whole = refl; long = refl; inside = omega arith; sound = s .faultless; few = omega arith }
+
+pub passing-none : (l d : List ℕ) → Sound l → Passing l d d 0 0
+unfolding counted-none
+passing-none l d s = record { done = counted-none l s; kept = refl; held = sym (over-none d) }
 
 -- the item that the meaning has for an attribute is the one that is made of it
 item-meant : (l : List ℕ) (n : ℕ) (p : Part) → Octets l → itemIn l (itemAt l n p) ≡ item n (partOf l (p .start) (p .len))
@@ -62,6 +56,10 @@ item-meant l n p o = item-as-meant l n p o
 -- the value of an attribute
 abbrev valueIn : List ℕ → Part → List ℕ
 valueIn l p = partOf l (p .start) (p .len)
+
+-- the octets that are stored of a part
+pub part-size : (l v : List ℕ) (n : ℕ) (p : Part) (size : ℕ) → v ≡ valueIn l p → size ≡ length (stored n v) → size ≡ length (stored n (valueIn l p))
+part-size l v n p size e s = s ∙ ap (λ (x : List ℕ). length (stored n x)) e
 
 module _ (l : List ℕ) (place n : ℕ) (p : Part) (behind : ℕ) (g : Stands l place n p behind) (o : Octets l) where
   value-long : length (valueIn l p) ≡ p .len
@@ -86,58 +84,66 @@ module _ (l : List ℕ) (place n : ℕ) (p : Part) (behind : ℕ) (g : Stands l 
       let c = g .carried o in
       subst Small (sym e) (record { number-low = c .low; count-low = count-fits _ c })
 
-  module _ (fill : Bool) (d out : List ℕ) (written : ℕ) (k : Passing l fill d out place written) (room : fill ≡ true → length (itemsIn l) ≤ length d) where
+  -- it is made of the octets up to the next attribute
+  pub item-made : (i : Item) → i ≡ itemFor n (take (behind - p .start) (drop (p .start) l)) p → i ≡ itemAt l n p
+  unfolding partOf
+  item-made i e =
+      let long : behind - p .start ≡ p .len = omega (arith, g .ends) in
+      e ∙ item-there l n p (take (behind - p .start) (drop (p .start) l)) (ap (λ (k : ℕ). take k (drop (p .start) l)) long)
+
+  module _ (counted : ℕ) (k : Counted l place counted) where
     splits : itemsIn l ≡ (k .gone ++ item n (valueIn l p)) ++ itemsOf (attributes (walkAt l behind))
     splits = k .whole ∙ ap (λ (s : List ℕ). k .gone ++ s) walks-on ∙ sym (append-assoc (k .gone) (item n (valueIn l p)) (itemsOf (attributes (walkAt l behind))))
 
-    has-room : fill ≡ true → length (k .gone) + length (item n (valueIn l p)) ≤ length d
-    has-room e =
-        omega
-        (arith, room e, ap length splits, length-append (k .gone ++ item n (valueIn l p)) (itemsOf (attributes (walkAt l behind))), length-append (k .gone) (item n (valueIn l p)))
-
-    -- there is room for it where the items are to be laid
-    pub item-fits : (i : Item) → i ≡ itemAt l n p → fill ≡ true → written + length (itemIn l i) ≤ length out
-    item-fits i e y = omega (arith, has-room y, k .long, k .kept, ap (λ (j : Item). length (itemIn l j)) e, ap length (item-meant l n p o))
-
     -- the sum does not wrap
-    pub item-counts : (i : Item) (size : ℕ) → i ≡ itemAt l n p → size ≡ storedLength (i .form) (i .count) → 4 + size ≡ length (item n (valueIn l p))
-    item-counts i size e s =
-        omega (arith, item-size, announced-as-meant l n p, s, ap (λ (j : Item). storedLength (j .form) (j .count)) e)
-
-    pub item-sum : (i : Item) (size : ℕ) → i ≡ itemAt l n p → size ≡ storedLength (i .form) (i .count) → written + (4 + size) ≤ 2 * length l
-    item-sum i size e s = omega (arith, item-counts i size e s, item-bound, k .few, g .inside)
-
-    laid-on : (b : Bool) → fill ≡ b → (then : List ℕ) → then ≡ filledBy fill (laidAt written (item n (valueIn l p)) out) out → then ≡ filledBy fill (over (k .gone ++ item n (valueIn l p)) d) d
-    unfolding filledBy
-    laid-on true y then h =
-        let at : laidAt written (item n (valueIn l p)) out ≡ over (k .gone ++ item n (valueIn l p)) d =
-        laid-behind (k .gone) (item n (valueIn l p)) d out written (k .long) (k .held ∙ rw y) (omega (arith, has-room y, k .long)) in
-        filled fill (over (k .gone ++ item n (valueIn l p)) d) d then y (h ∙ rw y at)
-    laid-on false y then h = h ∙ rw y (k .held ∙ rw y)
+    pub counted-sum : (size : ℕ) → size ≡ length (stored n (valueIn l p)) → counted + (4 + size) ≤ 2 * length l
+    counted-sum size s = omega (arith, item-size, s, item-bound, k .few, g .inside)
 
     -- one attribute more
-    pub passing-more : (i : Item) (size : ℕ) (after : List ℕ) → i ≡ itemAt l n p → size ≡ storedLength (i .form) (i .count) → length after ≡ length out → after ≡ filledBy fill (laidAt written (itemIn l i) out) out → Passing l fill d after behind (written + (4 + size))
-    passing-more i size after e s len h =
-        let same : itemIn l i ≡ item n (valueIn l p) = ap (itemIn l) e ∙ item-meant l n p o in
+    pub counted-more : (size : ℕ) → size ≡ length (stored n (valueIn l p)) → Counted l behind (counted + (4 + size))
+    counted-more size s =
         record {
           gone = k .gone ++ item n (valueIn l p);
           whole = splits;
-          long = omega (arith, length-append (k .gone) (item n (valueIn l p)), k .long, item-counts i size e s);
+          long = omega (arith, length-append (k .gone) (item n (valueIn l p)), k .long, item-size, s);
           inside = g .inside;
           sound = sound-behind l place n p behind g (k .sound);
-          few = omega (arith, item-counts i size e s, item-bound, k .few);
+          few = omega (arith, item-size, s, item-bound, k .few);
+        }
+
+  -- what an item announces is what is stored
+  pub item-counts : (i : Item) (size : ℕ) → i ≡ itemAt l n p → size ≡ storedLength (i .form) (i .count) → size ≡ length (stored n (valueIn l p))
+  item-counts i size e s = s ∙ ap (λ (j : Item). storedLength (j .form) (j .count)) e ∙ announced-as-meant l n p
+
+  module _ (d out : List ℕ) (written : ℕ) (k : Passing l d out place written) (room : length (itemsIn l) ≤ length d) where
+    has-room : length (k .done .gone) + length (item n (valueIn l p)) ≤ length d
+    has-room =
+        omega
+        (arith, room, ap length (splits written (k .done)), length-append (k .done .gone ++ item n (valueIn l p)) (itemsOf (attributes (walkAt l behind))), length-append (k .done .gone) (item n (valueIn l p)))
+
+    -- there is room for the item
+    pub item-fits : (i : Item) → i ≡ itemAt l n p → written + length (itemIn l i) ≤ length out
+    item-fits i e = omega (arith, has-room, k .done .long, k .kept, ap (λ (j : Item). length (itemIn l j)) e, ap length (item-meant l n p o))
+
+    -- one attribute more
+    pub passing-more : (i : Item) (size : ℕ) (after : List ℕ) → i ≡ itemAt l n p → size ≡ storedLength (i .form) (i .count) → length after ≡ length out → after ≡ laidAt written (itemIn l i) out → Passing l d after behind (written + (4 + size))
+    unfolding counted-more
+    passing-more i size after e s len h =
+        record {
+          done = counted-more written (k .done) size (item-counts i size e s);
           kept = len ∙ k .kept;
-          held = laid-on fill refl after (h ∙ ap (λ (x : List ℕ). filledBy fill (laidAt written x out) out) same);
+          held = h ∙ ap (λ (x : List ℕ). laidAt written x out) (ap (itemIn l) e ∙ item-meant l n p o) ∙ laid-behind (k .done .gone) (item n (valueIn l p)) d out written (k .done .long) (k .held) (omega (arith, has-room, k .done .long));
         }
 
 -- The loop is done where no attribute is left.
-module _ (l : List ℕ) (fill : Bool) (d out : List ℕ) (place written : ℕ) (k : Passing l fill d out place written) where
-  done : attributes (walkAt l place) ≡ [] → Passed l fill d written out
-  unfolding itemsOf
-  done e =
-      let all : itemsIn l ≡ k .gone = k .whole ∙ ap (λ (a : List Attribute). k .gone ++ itemsOf a) e ∙ append-nil (k .gone) in
-      record { counts = sym (ap length all ∙ k .long); holds = k .held ∙ ap (λ (s : List ℕ). filledBy fill (over s d) d) (sym all) }
+module _ (l : List ℕ) (place : ℕ) (end : length l ≤ place) where
+  all-gone : (counted : ℕ) (k : Counted l place counted) → itemsIn l ≡ k .gone
+  unfolding attributes itemsOf
+  all-gone counted k = k .whole ∙ ap (λ (w : Walk). k .gone ++ itemsOf (attributes w)) (walk-past l place end) ∙ append-nil (k .gone)
 
-  pub passing-ended : length l ≤ place → Passed l fill d written out
-  unfolding attributes
-  passing-ended h = done (ap attributes (walk-past l place h))
+  pub counted-ended : (counted : ℕ) → Counted l place counted → counted ≡ length (itemsIn l)
+  counted-ended counted k = sym (ap length (all-gone counted k) ∙ k .long)
+
+  pub passing-ended : (d out : List ℕ) (written : ℕ) → Passing l d out place written → Passed l d written out
+  passing-ended d out written k =
+      record { counts = counted-ended written (k .done); holds = k .held ∙ ap (λ (s : List ℕ). over s d) (sym (all-gone written (k .done))) }

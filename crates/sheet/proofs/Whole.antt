@@ -1,6 +1,6 @@
 -- The whole sheet: its head and its items one behind the other, and what reading answers. Assumes nothing.
 use mathlib.Core.Path.{_≡_, refl, sym, ap, _∙_}
-use mathlib.Core.Bool.{true, false}
+use mathlib.Core.Bool.{true}
 use mathlib.Core.List.{List, _++_}
 use Prim.Native.Nat.{ℕ, _+_, _-_, _*_, _≤_, _<_}
 use native.Mathlib.Omega.{arith}
@@ -21,9 +21,8 @@ use Rattle.area.specs.declared.Refusal.{Refusal}
 use Rattle.area.specs.declared.Framing.{Framing}
 use Rattle.area.specs.declared.Framing.the-variants.{Whole, Broken}
 use Rattle.area.specs.Answers.{framingFrom, admittedOf}
-use Rattle.sheet.specs.declared.Reading.{Reading}
 use Rattle.sheet.specs.declared.Reading.the-variants.{Sheet, Refused}
-use Rattle.sheet.specs.Items.{sheetHead, itemsIn, filledBy, Sound, Admitted}
+use Rattle.sheet.specs.Items.{sheetHead, itemsIn, Sound, Admitted}
 use Rattle.sheet.specs.Answers.{Read}
 
 -- a sheet is its head and its items
@@ -70,17 +69,17 @@ module _ (kind flags : ℕ) (area : List ℕ) (count : ℕ) (a : Admitted kind f
   roomy o room h =
       omega (arith, sheet-bound kind flags area (record { octets = o; accepted = a .accepted }), sheet-long)
 
-  -- refusal 9: the buffer is as it was, since the first pass only counts
-  pub too-long : (d held : List ℕ) (needed : ℕ) → needed ≡ 9 + length (itemsIn area) → length held < needed → held ≡ filledBy false (over (itemsIn area) d) d → Read kind flags area d (Refused (record { number = 9; second = needed })) held
-  unfolding readAnswer areaOrder after filledBy
-  too-long d held needed e h k =
+  -- refusal 9: nothing was written
+  pub too-long : (d : List ℕ) (needed : ℕ) → needed ≡ 9 + length (itemsIn area) → length d < needed → Read kind flags area d (Refused (record { number = 9; second = needed })) d
+  unfolding readAnswer areaOrder after
+  too-long d needed e h =
       let n : needed ≡ length (sheetOf kind flags area) = e ∙ sym sheet-long in
-      let t = lt-ltb (length d) (length (sheetOf kind flags area)) (omega (arith, ap length k)) in
-      record { says = rw (n, a .accepted, t); holds = rw (a .accepted, t) k }
+      let t = lt-ltb (length d) (length (sheetOf kind flags area)) (omega arith) in
+      record { says = rw (n, a .accepted, t); holds = rw (a .accepted, t) }
 
   -- The sheet: its head over the buffer's start, its items right behind it.
-  pub sheet-laid : (d headed part : List ℕ) (written : ℕ) → 9 + length (itemsIn area) ≤ length d → headed ≡ laidAt 0 (sheetHead kind flags count) d → written ≡ length (itemsIn area) → part ≡ filledBy true (over (itemsIn area) (take (length headed - 9) (drop 9 headed))) (take (length headed - 9) (drop 9 headed)) → Read kind flags area d (Sheet (9 + written)) (putMid 9 (length headed - 9) headed part)
-  unfolding readAnswer areaOrder after filledBy
+  pub sheet-laid : (d headed part : List ℕ) (written : ℕ) → 9 + length (itemsIn area) ≤ length d → headed ≡ laidAt 0 (sheetHead kind flags count) d → written ≡ length (itemsIn area) → part ≡ over (itemsIn area) (take (length headed - 9) (drop 9 headed)) → Read kind flags area d (Sheet (9 + written)) (putMid 9 (length headed - 9) headed part)
+  unfolding readAnswer areaOrder after
   sheet-laid d headed part written room hd w p =
       let head : List ℕ = sheetHead kind flags count in
       let nine : length head ≡ 9 = head-long kind flags count in
@@ -97,11 +96,6 @@ module _ (kind flags : ℕ) (area : List ℕ) (count : ℕ) (a : Admitted kind f
             rw (a .accepted, t)
             (put ∙ behind ∙ ap (λ (s : List ℕ). over s d) (sym (sheet-parts kind flags count area (a .counts))));
       }
-
-  -- the buffer that the counting pass left is the one it was lent
-  pub read-uncounted : (d counted held : List ℕ) (r : Reading) → counted ≡ filledBy false (over (itemsIn area) d) d → Read kind flags area counted r held → Read kind flags area d r held
-  unfolding filledBy
-  read-uncounted d counted held r k h = rw k at h
 
 -- ---- What the framing answered
 

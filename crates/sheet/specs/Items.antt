@@ -1,7 +1,6 @@
 -- Document 01, "The sheet": the octets of an item, of the items and of the sheet's head, as the writers lay them. Assumes nothing.
 use Prim.Native.Nat.{ℕ, _<_}
 use mathlib.Core.Path.{_≡_}
-use mathlib.Core.Bool.{Bool, cond}
 use mathlib.Core.List.{List, [], _∷_, _++_}
 use lib.ListN.{length}
 use Rattle.meaning.specs.Octets.{octetsOf}
@@ -33,18 +32,14 @@ sheetHead kind flags count = mark ++ kind ∷ flags ∷ octetsOf 2 count
 unfoldable pub itemsIn : (area : List ℕ) → List ℕ
 itemsIn area = itemsOf (attributes (walk area))
 
--- a buffer that a pass fills, or leaves where it only counts
-unfoldable pub filledBy : (fill : Bool) (s d : List ℕ) → List ℕ
-filledBy fill s d = cond fill s d
-
 -- an area that is well framed
 pub record Sound (area : List ℕ) : Type 0 where
   pub faultless : fault (walk area) ≡ none
 
--- what a pass over an area's items counts, and what the buffer holds then
-pub record Passed (area : List ℕ) (fill : Bool) (buffer : List ℕ) (counted : ℕ) (held : List ℕ) : Type 0 where
+-- how many octets the items of an area are that were laid over a buffer's start, and what the buffer holds then
+pub record Passed (area buffer : List ℕ) (counted : ℕ) (held : List ℕ) : Type 0 where
   pub counts : counted ≡ length (itemsIn area)
-  pub holds : held ≡ filledBy fill (over (itemsIn area) buffer) buffer
+  pub holds : held ≡ over (itemsIn area) buffer
 
 -- an area of which nothing of 1 to 8 applies, and the number of its attributes
 pub record Admitted (kind flags : ℕ) (area : List ℕ) (count : ℕ) : Type 0 where

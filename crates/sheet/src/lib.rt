@@ -5,7 +5,7 @@ use area::Refusal;
 use shape::Item;
 use shape::Value;
 ghost use mathlib.Core.Path.{_≡_};
-ghost use mathlib.Core.Bool.{true, cond};
+ghost use mathlib.Core.Bool.{cond};
 ghost use mathlib.Core.List.{[], _∷_};
 ghost use Prim.Native.Nat.{_+_, _-_, _*_, _%_, _≤_, _<_};
 ghost use lib.Dec.{eqb};
@@ -14,7 +14,7 @@ ghost use Rattle.meaning.specs.Octets.{octetsOf, pack, packedLength, digitValue
 ghost use Rattle.octets.specs.Parts.{laidAt};
 ghost use Rattle.octets.specs.DigitStrings.{halves, packedOf};
 ghost use Rattle.shape.specs.Items.{storedPart, storedIn};
-ghost use Rattle.sheet.specs.Items.{headOf, itemIn, Small, sheetHead, itemsIn, filledBy, Sound, Passed, Admitted};
+ghost use Rattle.sheet.specs.Items.{headOf, itemIn, Small, sheetHead, itemsIn, Sound, Passed, Admitted};
 ghost use Rattle.sheet.specs.Answers.{Read};
 
 // What reading answers: the octets of the sheet that stands at the buffer's start, or a refusal.
@@ -123,34 +123,49 @@ fn head_of(item: Item) -> [u8; 4]
     [26, (n - 256) as u8, form, count]
 }
 
-// Lays an item, head and stored octets, where `fill` says so.
-fn put_item(buf: &mut [u8], at: usize, area: &[u8], item: Item, fill: bool)
-    requires { ⌜ Small item × (fill ≡ true → at + length (itemIn (now area) item) ≤ length (now buf)) ⌝ }
-    ensures { λ _. ⌜ now (buf .exit) ≡ filledBy fill (laidAt at (itemIn (now (area .entry)) item) (now (buf .entry))) (now (buf .entry)) ⌝ }
+// Lays an item, its stored octets and the head before them.
+fn put_item(buf: &mut [u8], at: usize, area: &[u8], item: Item)
+    requires { ⌜ Small item × (at + length (itemIn (now area) item) ≤ length (now buf)) ⌝ }
+    ensures { λ _. ⌜ now (buf .exit) ≡ laidAt at (itemIn (now (area .entry)) item) (now (buf .entry)) ⌝ }
 {
-    if !fill {
-        return;
-    }
+    put_stored(buf, at + 4, area, item);
     let head = head_of(item);
     octets::copy_at(buf, at, &head);
-    put_stored(buf, at + 4, area, item);
 }
 
-// Passes over the attributes of an area that is well framed: counts the octets of their items and, where `fill` says so, lays these
-// over the buffer's start, one behind the other.
-fn pass(area: &[u8], buf: &mut [u8], fill: bool) -> usize
-    requires { ⌜ Sound (now area) × (fill ≡ true → length (itemsIn (now area)) ≤ length (now buf)) ⌝ }
-    ensures { λ r. ⌜ Passed (now (area .entry)) fill (now (buf .entry)) r (now (buf .exit)) ⌝ }
+// The octets of the items of an area that is well framed.
+fn needed_for(area: &[u8]) -> usize
+    requires { ⌜ Sound (now area) ⌝ }
+    ensures { λ r. ⌜ r ≡ length (itemsIn (now (area .entry))) ⌝ }
+{
+    let mut place: usize = 0;
+    let mut needed: usize = 0;
+    while place < area.len() {
+        let carried = area::carried_at(area, place);
+        let value = carried.value;
+        let v = octets::part(area, value.start, value.len);
+        needed += 4 + shape::stored_size(carried.number, v);
+        place = carried.next;
+    }
+    needed
+}
+
+// Lays the items of an area that is well framed over the buffer's start, one behind the other, and says how many octets they are.
+fn put_items(area: &[u8], buf: &mut [u8]) -> usize
+    requires { ⌜ Sound (now area) × (length (itemsIn (now area)) ≤ length (now buf)) ⌝ }
+    ensures { λ r. ⌜ Passed (now (area .entry)) (now (buf .entry)) r (now (buf .exit)) ⌝ }
 {
     let mut place: usize = 0;
     let mut written: usize = 0;
     while place < area.len() {
         let carried = area::carried_at(area, place);
         let value = carried.value;
-        let item = shape::item_of(area, carried.number, value);
-        put_item(buf, written, area, item, fill);
+        let start = value.start;
+        let next = carried.next;
+        let item = shape::item_of(&area[start..next], carried.number, value);
+        put_item(buf, written, area, item);
         written += 4 + shape::stored_len(item.form, item.count);
-        place = carried.next;
+        place = next;
     }
     written
 }
@@ -181,7 +196,7 @@ fn fill(area: &[u8], kind: u32, flags: u32, count: usize, sheet: &mut [u8]) -> R
 {
     let head = sheet_head(kind, flags, count);
     octets::copy_at(sheet, 0, &head);
-    let written = pass(area, &mut sheet[9..], true);
+    let written = put_items(area, &mut sheet[9..]);
     Reading::Sheet(9 + written)
 }
 
@@ -194,7 +209,7 @@ fn lay(area: &[u8], kind: u32, flags: u32, count: usize, sheet: &mut [u8]) -> Re
     if 9 + 2 * area.len() <= sheet.len() {
         return fill(area, kind, flags, count, sheet);
     }
-    let needed = 9 + pass(area, sheet, false);
+    let needed = 9 + needed_for(area);
     if sheet.len() < needed {
         return Reading::Refused(Refusal {
             number: 9,

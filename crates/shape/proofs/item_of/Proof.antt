@@ -2,13 +2,10 @@
 use borrow.Author.Needs.{needs}
 use mathlib.Core.Path.{_∙_}
 use Rattle.shape.specs.Codes.{codeOf, shapeBy}
-use Rattle.shape.proofs.Items.{item-there, item-raw}
+use Rattle.shape.proofs.Items.{item-raw}
 use Rattle.shape.proofs.Formed.{arm-shape}
 use Rattle.shape.proofs.item_of.Statement.{statement}
 use Rattle.shape.proofs.item_of.Tie as tie
-
-part-requires : tie.Need-part-requires
-part-requires c κs = search needs
 
 code-of-requires : tie.Need-code-of-requires
 code-of-requires c κs = search needs
@@ -50,41 +47,40 @@ raw-item-requires : tie.Need-raw-item-requires
 raw-item-requires c κs = search needs
 
 returns : tie.Need-returns
-returns c = c .number-item .ensures ∙ item-there _ _ _ _ (c .before .before .before .part .ensures)
+returns c = c .number-item .ensures
 
 returns-2 : tie.Need-returns-2
-returns-2 c = c .address-item .ensures ∙ item-there _ _ _ _ (c .before .before .before .part .ensures)
+returns-2 c = c .address-item .ensures
 
 returns-3 : tie.Need-returns-3
-returns-3 c = c .digits-item .ensures ∙ item-there _ _ _ _ (c .before .before .before .part .ensures)
+returns-3 c = c .digits-item .ensures
 
 returns-4 : tie.Need-returns-4
-returns-4 c = c .digits-item2 .ensures ∙ item-there _ _ _ _ (c .before .before .before .part .ensures)
+returns-4 c = c .digits-item2 .ensures
 
 returns-5 : tie.Need-returns-5
-returns-5 c = c .hex-item .ensures ∙ item-there _ _ _ _ (c .before .before .before .part .ensures)
+returns-5 c = c .hex-item .ensures
 
 returns-6 : tie.Need-returns-6
-returns-6 c = c .qos-item .ensures ∙ item-there _ _ _ _ (c .before .before .before .part .ensures)
+returns-6 c = c .qos-item .ensures
 
 returns-7 : tie.Need-returns-7
-returns-7 c = c .octet-item .ensures ∙ item-there _ _ _ _ (c .before .before .before .part .ensures)
+returns-7 c = c .octet-item .ensures
 
 returns-8 : tie.Need-returns-8
-returns-8 c = c .octet-item2 .ensures ∙ item-there _ _ _ _ (c .before .before .before .part .ensures)
+returns-8 c = c .octet-item2 .ensures
 
 returns-9 : tie.Need-returns-9
-returns-9 c = c .octet-item3 .ensures ∙ item-there _ _ _ _ (c .before .before .before .part .ensures)
+returns-9 c = c .octet-item3 .ensures
 
 returns-10 : tie.Need-returns-10
 unfolding codeOf
-returns-10 c = c .raw-item .ensures ∙ item-raw _ _ _ _ (c .before .before .before .part .ensures) _ (c .before .before .code-of .ensures) (c .before .match .rest)
+returns-10 c = c .raw-item .ensures ∙ item-raw _ _ _ _ (c .before .before .code-of .ensures) (c .before .match .rest)
 
 pub item-of-spec : {M : Type 1} → statement M
 item-of-spec =
     tie.close
     (tie.spec
-    part-requires
     code-of-requires
     number-item-requires
     address-item-requires

@@ -1,46 +1,117 @@
--- The lines of document 01, one after the other. Assumes nothing.
-use borrow.Author.Needs.{needs}
-use borrow.Author.Tests.{eq-eqb, ne-eqb}
-use mathlib.Core.Path.{sym, _∙_}
-use Rattle.shape.proofs.Coded.{plain-codes}
+-- The code of each number that document 01 names, and 0 for any other. Assumes nothing.
+use Rattle.meaning.specs.Shapes.{plainShape}
+use Rattle.shape.specs.Codes.{codeOf}
+use Rattle.shape.proofs.Coded.{plain-other}
+use mathlib.Core.Path.{sym}
 use Rattle.shape.proofs.plain_code.Statement.{statement}
 use Rattle.shape.proofs.plain_code.Tie as tie
 
-is-plain-number-requires : tie.Need-is-plain-number-requires
-is-plain-number-requires c κs = search needs
-
 returns : tie.Need-returns
-returns c = rw (plain-codes (c .before .before .args .t), sym (c .before .is-plain-number .ensures) ∙ c .if1 .taken)
-
-is-plain-address-requires : tie.Need-is-plain-address-requires
-is-plain-address-requires c κs = search needs
+unfolding plainShape codeOf
+returns c = rw (c .match .keys1)
 
 returns-2 : tie.Need-returns-2
-returns-2 c = rw (plain-codes (c .before .before .before .before .args .t), sym (c .before .before .before .is-plain-number .ensures) ∙ c .before .before .if1 .left, sym (c .before .is-plain-address .ensures) ∙ c .if2 .taken)
+unfolding plainShape codeOf
+returns-2 c = rw (c .match .keys2)
 
 returns-3 : tie.Need-returns-3
-returns-3 c = rw (plain-codes (c .before .before .before .before .before .args .t), sym (c .before .before .before .before .is-plain-number .ensures) ∙ c .before .before .before .if1 .left, sym (c .before .before .is-plain-address .ensures) ∙ c .before .if2 .left, eq-eqb (c .before .before .before .before .before .args .t) 31 (c .if3 .taken))
+unfolding plainShape codeOf
+returns-3 c = rw (c .match .keys3)
 
 returns-4 : tie.Need-returns-4
-returns-4 c = rw (plain-codes (c .before .before .before .before .before .before .args .t), sym (c .before .before .before .before .before .is-plain-number .ensures) ∙ c .before .before .before .before .if1 .left, sym (c .before .before .before .is-plain-address .ensures) ∙ c .before .before .if2 .left, ne-eqb (c .before .before .before .before .before .before .args .t) 31 (c .before .if3 .left), eq-eqb (c .before .before .before .before .before .before .args .t) 44 (c .if4 .taken))
-
-is-plain-text-requires : tie.Need-is-plain-text-requires
-is-plain-text-requires c κs = search needs
+unfolding plainShape codeOf
+returns-4 c = rw (c .match .keys4)
 
 returns-5 : tie.Need-returns-5
-returns-5 c = rw (plain-codes (c .before .before .before .before .before .before .before .before .args .t), sym (c .before .before .before .before .before .before .before .is-plain-number .ensures) ∙ c .before .before .before .before .before .before .if1 .left, sym (c .before .before .before .before .before .is-plain-address .ensures) ∙ c .before .before .before .before .if2 .left, ne-eqb (c .before .before .before .before .before .before .before .before .args .t) 31 (c .before .before .before .if3 .left), ne-eqb (c .before .before .before .before .before .before .before .before .args .t) 44 (c .before .before .if4 .left), sym (c .before .is-plain-text .ensures) ∙ c .if5 .taken)
+unfolding plainShape codeOf
+returns-5 c = rw (c .match .keys5)
 
 returns-6 : tie.Need-returns-6
-returns-6 c = rw (plain-codes (c .before .before .before .before .before .before .before .before .before .args .t), sym (c .before .before .before .before .before .before .before .before .is-plain-number .ensures) ∙ c .before .before .before .before .before .before .before .if1 .left, sym (c .before .before .before .before .before .before .is-plain-address .ensures) ∙ c .before .before .before .before .before .if2 .left, ne-eqb (c .before .before .before .before .before .before .before .before .before .args .t) 31 (c .before .before .before .before .if3 .left), ne-eqb (c .before .before .before .before .before .before .before .before .before .args .t) 44 (c .before .before .before .if4 .left), sym (c .before .before .is-plain-text .ensures) ∙ c .before .if5 .left, eq-eqb (c .before .before .before .before .before .before .before .before .before .args .t) 2 (c .if6 .taken))
+unfolding plainShape codeOf
+returns-6 c = rw (c .match .keys6)
 
 returns-7 : tie.Need-returns-7
-returns-7 c = rw (plain-codes (c .before .before .before .before .before .before .before .before .before .before .args .t), sym (c .before .before .before .before .before .before .before .before .before .is-plain-number .ensures) ∙ c .before .before .before .before .before .before .before .before .if1 .left, sym (c .before .before .before .before .before .before .before .is-plain-address .ensures) ∙ c .before .before .before .before .before .before .if2 .left, ne-eqb (c .before .before .before .before .before .before .before .before .before .before .args .t) 31 (c .before .before .before .before .before .if3 .left), ne-eqb (c .before .before .before .before .before .before .before .before .before .before .args .t) 44 (c .before .before .before .before .if4 .left), sym (c .before .before .before .is-plain-text .ensures) ∙ c .before .before .if5 .left, ne-eqb (c .before .before .before .before .before .before .before .before .before .before .args .t) 2 (c .before .if6 .left), eq-eqb (c .before .before .before .before .before .before .before .before .before .before .args .t) 3 (c .if7 .taken))
+unfolding plainShape codeOf
+returns-7 c = rw (c .match .keys7)
 
 returns-8 : tie.Need-returns-8
-returns-8 c = rw (plain-codes (c .before .before .before .before .before .before .before .before .before .before .before .args .t), sym (c .before .before .before .before .before .before .before .before .before .before .is-plain-number .ensures) ∙ c .before .before .before .before .before .before .before .before .before .if1 .left, sym (c .before .before .before .before .before .before .before .before .is-plain-address .ensures) ∙ c .before .before .before .before .before .before .before .if2 .left, ne-eqb (c .before .before .before .before .before .before .before .before .before .before .before .args .t) 31 (c .before .before .before .before .before .before .if3 .left), ne-eqb (c .before .before .before .before .before .before .before .before .before .before .before .args .t) 44 (c .before .before .before .before .before .if4 .left), sym (c .before .before .before .before .is-plain-text .ensures) ∙ c .before .before .before .if5 .left, ne-eqb (c .before .before .before .before .before .before .before .before .before .before .before .args .t) 2 (c .before .before .if6 .left), ne-eqb (c .before .before .before .before .before .before .before .before .before .before .before .args .t) 3 (c .before .if7 .left), eq-eqb (c .before .before .before .before .before .before .before .before .before .before .before .args .t) 60 (c .if8 .taken))
+unfolding plainShape codeOf
+returns-8 c = rw (c .match .keys8)
 
 returns-9 : tie.Need-returns-9
-returns-9 c = rw (plain-codes (c .before .before .before .before .before .before .before .before .before .before .before .args .t), sym (c .before .before .before .before .before .before .before .before .before .before .is-plain-number .ensures) ∙ c .before .before .before .before .before .before .before .before .before .if1 .left, sym (c .before .before .before .before .before .before .before .before .is-plain-address .ensures) ∙ c .before .before .before .before .before .before .before .if2 .left, ne-eqb (c .before .before .before .before .before .before .before .before .before .before .before .args .t) 31 (c .before .before .before .before .before .before .if3 .left), ne-eqb (c .before .before .before .before .before .before .before .before .before .before .before .args .t) 44 (c .before .before .before .before .before .if4 .left), sym (c .before .before .before .before .is-plain-text .ensures) ∙ c .before .before .before .if5 .left, ne-eqb (c .before .before .before .before .before .before .before .before .before .before .before .args .t) 2 (c .before .before .if6 .left), ne-eqb (c .before .before .before .before .before .before .before .before .before .before .before .args .t) 3 (c .before .if7 .left), ne-eqb (c .before .before .before .before .before .before .before .before .before .before .before .args .t) 60 (c .if8 .left))
+unfolding plainShape codeOf
+returns-9 c = rw (c .match .keys9)
+
+returns-10 : tie.Need-returns-10
+unfolding plainShape codeOf
+returns-10 c = rw (c .match .keys10)
+
+returns-11 : tie.Need-returns-11
+unfolding plainShape codeOf
+returns-11 c = rw (c .match .keys11)
+
+returns-12 : tie.Need-returns-12
+unfolding plainShape codeOf
+returns-12 c = rw (c .match .keys12)
+
+returns-13 : tie.Need-returns-13
+unfolding plainShape codeOf
+returns-13 c = rw (c .match .keys13)
+
+returns-14 : tie.Need-returns-14
+unfolding plainShape codeOf
+returns-14 c = rw (c .match .keys14)
+
+returns-15 : tie.Need-returns-15
+unfolding plainShape codeOf
+returns-15 c = rw (c .match .keys15)
+
+returns-16 : tie.Need-returns-16
+unfolding plainShape codeOf
+returns-16 c = rw (c .match .keys16)
+
+returns-17 : tie.Need-returns-17
+unfolding plainShape codeOf
+returns-17 c = rw (c .match .keys17)
+
+returns-18 : tie.Need-returns-18
+unfolding plainShape codeOf
+returns-18 c = rw (c .match .keys18)
+
+returns-19 : tie.Need-returns-19
+unfolding plainShape codeOf
+returns-19 c = rw (c .match .keys19)
+
+returns-20 : tie.Need-returns-20
+unfolding plainShape codeOf
+returns-20 c = rw (c .match .keys20)
+
+returns-21 : tie.Need-returns-21
+unfolding plainShape codeOf
+returns-21 c = rw (c .match .keys21)
+
+returns-22 : tie.Need-returns-22
+unfolding plainShape codeOf
+returns-22 c = rw (c .match .keys22)
+
+returns-23 : tie.Need-returns-23
+unfolding plainShape codeOf
+returns-23 c = rw (c .match .keys23)
+
+returns-24 : tie.Need-returns-24
+unfolding plainShape codeOf
+returns-24 c = rw (c .match .keys24)
+
+returns-25 : tie.Need-returns-25
+unfolding plainShape codeOf
+returns-25 c = rw (c .match .keys25)
+
+returns-26 : tie.Need-returns-26
+unfolding plainShape codeOf
+returns-26 c = rw (c .match .keys26)
+
+returns-27 : tie.Need-returns-27
+returns-27 c = sym (plain-other _ (c .match .rest))
 
 pub plain-code-spec : {M : Type 1} → statement M
-plain-code-spec = tie.close (tie.spec is-plain-number-requires returns is-plain-address-requires returns-2 returns-3 returns-4 is-plain-text-requires returns-5 returns-6 returns-7 returns-8 returns-9)
+plain-code-spec = tie.close (tie.spec returns returns-2 returns-3 returns-4 returns-5 returns-6 returns-7 returns-8 returns-9 returns-10 returns-11 returns-12 returns-13 returns-14 returns-15 returns-16 returns-17 returns-18 returns-19 returns-20 returns-21 returns-22 returns-23 returns-24 returns-25 returns-26 returns-27)

@@ -16,17 +16,17 @@ slice-aggregate-copy-at c = search needs
 copy-at-requires : tie.Need-copy-at-requires
 copy-at-requires c κs = search needs
 
-sub-pass : tie.Need-sub-pass
-sub-pass c = search needs
+sub-put-items : tie.Need-sub-put-items
+sub-put-items c = search needs
 
-part-pass-start : tie.Need-part-pass-start
-part-pass-start c = search needs
+part-put-items-start : tie.Need-part-put-items-start
+part-put-items-start c = search needs
 
-part-pass-end : tie.Need-part-pass-end
-part-pass-end c = search needs
+part-put-items-end : tie.Need-part-put-items-end
+part-put-items-end c = search needs
 
-pass-requires : tie.Need-pass-requires
-pass-requires c κs = (admitted-sound _ _ _ _ (c .before .before .before .before .before .before .before .before .before .pre .0), search needs)
+put-items-requires : tie.Need-put-items-requires
+put-items-requires c κs = (admitted-sound _ _ _ _ (c .before .before .before .before .before .before .before .before .before .pre .0), search needs)
 
 add-t15 : tie.Need-add-t15
 add-t15 c = search needs
@@ -38,7 +38,7 @@ returns : tie.Need-returns
 returns c =
     sheet-laid _ _ _ _ (c .before .before .before .before .before .before .before .before .before .before .before .before .pre .0) _ _ _ _ (c .before .before .before .before .before .before .before .before .before .before .before .before .pre .1)
     (rw (c .before .before .before .before .before .before .before .before .before .sheet-head .ensures) at (c .before .before .before .before .before .before .copy-at .ensures .holds))
-    (c .before .before .pass .ensures .counts) (c .before .before .pass .ensures .holds)
+    (c .before .before .put-items .ensures .counts) (c .before .before .put-items .ensures .holds)
 
 pub fill-spec : {M : Type 1} → statement M
 fill-spec =
@@ -47,10 +47,10 @@ fill-spec =
     sheet-head-requires
     slice-aggregate-copy-at
     copy-at-requires
-    sub-pass
-    part-pass-start
-    part-pass-end
-    pass-requires
+    sub-put-items
+    part-put-items-start
+    part-put-items-end
+    put-items-requires
     add-t15
     same-length
     returns)

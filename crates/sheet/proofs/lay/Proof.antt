@@ -1,11 +1,10 @@
 -- `sheet::lay` meets its contract. Assumes nothing.
 use Prim.Native.Nat.{ℕ, _+_}
 use borrow.Author.Needs.{needs}
-use mathlib.Core.Path.{sym, ap}
+use mathlib.Core.Path.{ap}
 use native.Mathlib.Omega.{arith}
 use Rattle.area.proofs.Steps.{slice-octets}
-use Rattle.meaning.proofs.Tests.{not-both}
-use Rattle.sheet.proofs.Whole.{bounded, admitted-sound, roomy, too-long, read-uncounted}
+use Rattle.sheet.proofs.Whole.{bounded, admitted-sound, roomy, too-long}
 use Rattle.sheet.proofs.lay.Statement.{statement}
 use Rattle.sheet.proofs.lay.Tie as tie
 
@@ -28,31 +27,25 @@ same-length c = search needs
 returns : tie.Need-returns
 returns c = search needs
 
-pass-requires : tie.Need-pass-requires
-pass-requires c κs = (admitted-sound _ _ _ _ (c .before .before .before .before .pre), λ e. not-both (sym e))
+needed-for-requires : tie.Need-needed-for-requires
+needed-for-requires c κs = admitted-sound _ _ _ _ (c .before .before .before .pre)
 
 add-needed : tie.Need-add-needed
 add-needed c =
-    let s = bounded _ _ _ _ (c .before .before .before .before .before .before .before .pre) (slice-octets (c .before .before .before .before .before .before .before .args .area .now) (c .before .before .before .before .before .before .shared-slice-known .given)) in
-    omega (arith, c .before .before .pass .ensures .counts, s .short)
-
-same-length-2 : tie.Need-same-length-2
-same-length-2 c = search needs
+    let s = bounded _ _ _ _ (c .before .before .before .before .pre) (slice-octets (c .before .before .before .before .args .area .now) (c .before .before .before .shared-slice-known .given)) in
+    omega (arith, c .needed-for .ensures, s .short)
 
 returns-2 : tie.Need-returns-2
-returns-2 c =
-    too-long _ _ _ _ (c .before .before .before .before .before .before .before .before .pre) _ _ _ (ap (λ (n : ℕ). 9 + n) (c .before .before .before .pass .ensures .counts)) (c .if2 .taken)
-    (c .before .before .before .pass .ensures .holds)
+returns-2 c = too-long _ _ _ _ (c .before .before .before .before .before .pre) _ _ (ap (λ (n : ℕ). 9 + n) (c .before .needed-for .ensures)) (c .if2 .taken)
 
 fill-requires-2 : tie.Need-fill-requires-2
 fill-requires-2 c κs = search needs
 
-same-length-3 : tie.Need-same-length-3
-same-length-3 c = search needs
+same-length-2 : tie.Need-same-length-2
+same-length-2 c = search needs
 
 returns-3 : tie.Need-returns-3
-returns-3 c =
-    read-uncounted _ _ _ _ (c .before .before .before .before .before .before .before .before .before .before .before .before .pre) _ _ _ _ (c .before .before .before .before .before .before .before .pass .ensures .holds) (c .before .before .fill2 .ensures)
+returns-3 c = search needs
 
 pub lay-spec : {M : Type 1} → statement M
 lay-spec =
@@ -63,10 +56,9 @@ lay-spec =
     fill-requires
     same-length
     returns
-    pass-requires
+    needed-for-requires
     add-needed
-    same-length-2
     returns-2
     fill-requires-2
-    same-length-3
+    same-length-2
     returns-3)
