@@ -17,13 +17,21 @@ use Rattle.breach.proofs.Rows.{known-kind}
 
 -- ---- Rule 3
 
-pub end-at-place : (repeated : Bool) (n place : ℕ) (once : Bool) → once ≡ onceOnly n → repeated && once ≡ true → place ≡ searchEnd repeated n place
-unfolding searchEnd
-end-at-place repeated n place once o e = rw (ap (λ (b : Bool). repeated && b) (sym o) ∙ e)
+module _ (seen : Bool) (n place : ℕ) where
+  -- the number was not seen
+  pub end-unseen : seen ≡ false → 0 ≡ searchEnd seen n place
+  unfolding searchEnd
+  end-unseen s = rw s
 
-pub end-at-once : (repeated : Bool) (n place : ℕ) (once : Bool) → once ≡ onceOnly n → repeated && once ≡ false → 0 ≡ searchEnd repeated n place
-unfolding searchEnd
-end-at-once repeated n place once o e = rw (ap (λ (b : Bool). repeated && b) (sym o) ∙ e)
+  -- it was seen, and stands once only or may stand again
+  module _ (once : Bool) (s : seen ≡ true) (o : once ≡ onceOnly n) where
+    pub end-at-place : once ≡ true → place ≡ searchEnd seen n place
+    unfolding searchEnd
+    end-at-place e = rw (s, sym o ∙ e)
+
+    pub end-at-once : once ≡ false → 0 ≡ searchEnd seen n place
+    unfolding searchEnd
+    end-at-once e = rw (s, sym o ∙ e)
 
 -- ---- Rule 4
 

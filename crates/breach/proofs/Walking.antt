@@ -53,18 +53,18 @@ pub record Looking (l : List ℕ) (n place end before : ℕ) : Type 0 where
   pub ahead : Reaches l before rest end
   pub left : onceOnly n && isIn n seen ≡ isIn n rest
 
--- The search goes to the place, or ends at once where no number stands twice or this one may.
-pub looking-start : (l : List ℕ) (repeated : Bool) (n : ℕ) (seen : List ℕ) (place end : ℕ) → end ≡ searchEnd repeated n place → Reaches l 0 seen place → (repeated ≡ false → isIn n seen ≡ false) → Looking l n place end 0
+-- The search goes to the place, or ends at once where the number was not noted or may stand again.
+pub looking-start : (l : List ℕ) (noted : Bool) (n : ℕ) (seen : List ℕ) (place end : ℕ) → end ≡ searchEnd noted n place → Reaches l 0 seen place → noted ≡ isIn n seen → Looking l n place end 0
 unfolding searchEnd
-looking-start l repeated n seen place end e r fresh = rw e (go repeated (onceOnly n) refl refl)
+looking-start l noted n seen place end e r says = rw e (go noted (onceOnly n) refl refl)
   where
     nothing : onceOnly n && isIn n seen ≡ false → Looking l n place 0 0
     nothing h = record { seen = seen; reached = r; rest = []; ahead = refl; left = h }
 
-    go : (a b : Bool) → repeated ≡ a → onceOnly n ≡ b → Looking l n place (cond (a && b) place 0) 0
+    go : (a b : Bool) → noted ≡ a → onceOnly n ≡ b → Looking l n place (cond (a && b) place 0) 0
     go true true p o = record { seen = seen; reached = r; rest = seen; ahead = r; left = rw o }
     go true false p o = nothing (rw o)
-    go false b p o = nothing (ap (λ (x : Bool). onceOnly n && x) (fresh p) ∙ and-false (onceOnly n))
+    go false b p o = nothing (ap (λ (x : Bool). onceOnly n && x) (sym says ∙ p) ∙ and-false (onceOnly n))
 
 module _ (l : List ℕ) (n place end before : ℕ) (k : Looking l n place end before) where
   -- what the search finds is said of any numbers that the walk to the place passes

@@ -2,7 +2,7 @@
 use mathlib.Core.Path.{_≡_, refl, sym, ap, _∙_}
 use mathlib.Core.Bool.{Bool}
 use mathlib.Core.List.{List, [], _∷_, _++_}
-use Prim.Native.Nat.{ℕ, _+_, _*_, _-_, _≤_, _<_}
+use Prim.Native.Nat.{ℕ, _+_, _≤_, _<_}
 use native.Mathlib.Omega.{arith}
 use lib.Dec.{leb, leb→le}
 use lib.ListN.{length}
@@ -10,23 +10,21 @@ use borrow.Author.Tests.{lt-ltb, le-ltb}
 use Rattle.meaning.specs.Jobs.{isKind}
 use Rattle.meaning.specs.Framing.{walk, attributes}
 use Rattle.meaning.specs.Refusals as book
-use Rattle.meaning.specs.Refusals.{none, refusal, fault, areaRefusal, areaOrder}
+use Rattle.meaning.specs.Refusals.{none, refusal, areaRefusal, areaOrder}
 use Rattle.meaning.specs.Breaches.{chosen, along, atEnd, numbersOf, breaches}
 use Rattle.meaning.specs.Answers.{after, listOf, checkAnswer}
 use Rattle.meaning.proofs.Tests.{parts, passes}
 use Rattle.meaning.proofs.Sheets.{clear}
-use Rattle.octets.specs.Parts.{partOf}
 use Rattle.octets.proofs.Overs.{over-none}
 use Rattle.area.specs.declared.Refusal.{Refusal}
 use Rattle.area.specs.declared.Framing.{Framing}
 use Rattle.area.specs.declared.Framing.the-variants.{Whole, Broken}
 use Rattle.area.specs.Answers.{framingFrom, admittedOf}
 use Rattle.breach.specs.declared.Checking.the-variants as is
-use Rattle.breach.specs.Table.{Known, Presence}
+use Rattle.breach.specs.Table.{Known, Row}
 use Rattle.breach.specs.Lists.{Laid, Seen, lackingIn, wantingIn, Ready, Passed, Admitted}
 use Rattle.breach.specs.Answers.{Checked}
 use Rattle.breach.proofs.Laying.{laid-then, laid-kept, laid-over, chosen-append, chosen-few}
-use Rattle.breach.proofs.Rows.{row-of}
 use Rattle.breach.proofs.Ends.{lacking-six, end-meant}
 
 -- ---- A pass
@@ -58,16 +56,13 @@ module _ (kind flags : ℕ) (area : List ℕ) (a : Admitted kind flags area) whe
       let t = parts (leb 1 kind) (leb kind 6) (passes (isKind kind) (clear kind flags area (a .accepted) .kind-ok)) in
       record { least = leb→le 1 kind (t .0); most = leb→le kind 6 (t .1) }
 
-  pub admitted-sound : fault (walk area) ≡ none
-  admitted-sound = clear kind flags area (a .accepted) .sound
-
-  pub admitted-ready : (table codes : List ℕ) → Presence table → codes ≡ partOf table ((kind - 1) * 256) 256 → Ready kind area codes
-  admitted-ready table codes p e =
+  pub admitted-ready : (codes : List ℕ) → Row kind codes → Ready kind area codes
+  admitted-ready codes row =
       record {
         short = clear kind flags area (a .accepted) .short;
-        sound = admitted-sound;
+        sound = clear kind flags area (a .accepted) .sound;
         known = admitted-known;
-        row = row-of kind table codes admitted-known p e;
+        row = row;
       }
 
   -- the first pass has no room at all, so it changes nothing

@@ -2,7 +2,7 @@
 -- of the kind, the numbers seen, and whether an earlier attribute carries the number. Assumes nothing.
 use Prim.Native.Nat.{ℕ, _+_, _*_, _≤_, _<_}
 use mathlib.Core.Path.{_≡_}
-use mathlib.Core.Bool.{Bool, false, cond, not, _&&_, _||_}
+use mathlib.Core.Bool.{Bool, false, cond, not, _&&_}
 use mathlib.Core.List.{List, [], _∷_, _++_}
 use lib.Dec.{eqb}
 use lib.ListN.{length, getD}
@@ -42,14 +42,9 @@ pub record PutOf (c : Candidate) (d : List ℕ) (at said : ℕ) (held : List ℕ
 
 -- ---- At an attribute
 
--- rule 3: where the search for an earlier attribute ends; repeated says that some number stands twice
-unfoldable pub searchEnd : (repeated : Bool) (number place : ℕ) → ℕ
-searchEnd repeated n place = cond (repeated && onceOnly n) place 0
-
--- behind the numbers seen, one stands again that was seen or stands before it
-unfoldable pub repeats : (seen rest : List ℕ) → Bool
-repeats seen [] = false
-repeats seen (n ∷ rest) = isIn n seen || repeats (seen ++ n ∷ []) rest
+-- rule 3: where the search for an earlier attribute ends; seen says that one carries the number
+unfoldable pub searchEnd : (seen : Bool) (number place : ℕ) → ℕ
+searchEnd seen n place = cond (seen && onceOnly n) place 0
 
 -- rules 1 to 4 at an attribute; again says that rule 3 is broken
 unfoldable pub brokenBy : (kind flags : ℕ) (again : Bool) (place number : ℕ) (value : List ℕ) → List Candidate
@@ -66,11 +61,6 @@ brokenBy kind flags again place n v =
 pub record Seen (seen : List Bool) (numbers : List ℕ) : Type 0 where
   pub long : length seen ≡ 512
   pub says : (n : ℕ) → n < 512 → getD seen n false ≡ isIn n numbers
-
--- the same, with whether a number stands twice
-pub record Noted (seen : List Bool) (repeated : Bool) (numbers : List ℕ) : Type 0 where
-  pub sees : Seen seen numbers
-  pub says : repeated ≡ repeats [] numbers
 
 -- rule 6 for one number, by the row of the kind
 abbrev pub lacksBy : (codes : List ℕ) (seen : List Bool) (place number : ℕ) → Candidate

@@ -1,5 +1,5 @@
--- Document 01, "a table of 1,536 entries, one for each kind and number": what the table and the row of a kind hold. Assumes nothing.
-use Prim.Native.Nat.{ℕ, _+_, _*_, _-_, _≤_, _<_}
+-- Document 01, "a table of 1,536 entries, one for each kind and number": what the row of a kind in it holds. Assumes nothing.
+use Prim.Native.Nat.{ℕ, _≤_, _<_}
 use mathlib.Core.Path.{_≡_}
 use mathlib.Core.List.{List}
 use lib.ListN.{length, getD}
@@ -9,11 +9,6 @@ use Rattle.meaning.specs.Presence.{code}
 pub record Known (kind : ℕ) : Type 0 where
   pub least : 1 ≤ kind
   pub most : kind ≤ 6
-
--- the table: kinds 1 to 6 in order, 256 numbers each
-pub record Presence (table : List ℕ) : Type 0 where
-  pub long : length table ≡ 1536
-  pub says : (kind n : ℕ) → Known kind → n < 256 → getD table ((kind - 1) * 256 + n) 0 ≡ code kind n
 
 -- the row of a kind: the code of each plain number
 pub record Row (kind : ℕ) (codes : List ℕ) : Type 0 where

@@ -1,5 +1,5 @@
-// The check: the list of an attribute area's breaches. The framing is tested first and the numbers are noted; then one pass over the
-// area only counts the entries, and another lays them into the list.
+// The check: the list of an attribute area's breaches. The framing is tested first; then one pass over the area only counts
+// the entries, and another lays them into the list.
 use area::Framing;
 use area::Refusal;
 ghost use mathlib.Core.Path.{_≡_};
@@ -9,15 +9,14 @@ ghost use lib.Dec.{eqb};
 ghost use lib.ListN.{length};
 ghost use mathlib.Core.List.{[]};
 ghost use Rattle.meaning.specs.Framing.{walk, attributes};
-ghost use Rattle.meaning.specs.Refusals.{none, fault};
 ghost use Rattle.meaning.specs.Shapes.{shapeOf, meets, statusOf};
 ghost use Rattle.meaning.specs.Shapes as shapes;
 ghost use Rattle.meaning.specs.Presence.{codeBars, codeDemands, codeWants};
 ghost use Rattle.meaning.specs.Breaches.{entry, onceOnly, asksPdpType, chosen, numbersOf};
 ghost use Rattle.meaning.specs.Breaches as meant;
 ghost use Rattle.meaning.specs.Answers.{listOf};
-ghost use Rattle.breach.specs.Table.{Known, Presence, Row};
-ghost use Rattle.breach.specs.Lists.{Laid, Put, PutOf, searchEnd, repeats, Noted, brokenBy, lacksBy, wantsBy, lackingFirst, lackingThen, lackingIn, wantingFirst, wantingThen, wantingIn, Ready, Passed, Admitted};
+ghost use Rattle.breach.specs.Table.{Known, Row};
+ghost use Rattle.breach.specs.Lists.{Laid, Put, PutOf, searchEnd, Seen, brokenBy, lacksBy, wantsBy, lackingFirst, lackingThen, lackingIn, wantingFirst, wantingThen, wantingIn, Ready, Passed, Admitted};
 ghost use Rattle.breach.specs.Answers.{Checked};
 
 mod tables;
@@ -28,17 +27,19 @@ pub enum Checking {
     Refused(Refusal),
 }
 
-// The numbers that an area carries: which were seen, and whether one stands twice.
-struct Numbers {
-    seen: [bool; 512],
-    repeated: bool,
-}
-
-// "a table of 1,536 entries, one for each kind and number": read once a check, since each reading copies it.
-fn presence() -> [u8; 1536]
-    ensures { λ r. ⌜ Presence r ⌝ }
+// "a table of 1,536 entries, one for each kind and number": the row of a kind, read once a check, since each reading copies it.
+fn presence(kind: u32) -> [u8; 256]
+    requires { ⌜ Known kind ⌝ }
+    ensures { λ r. ⌜ Row kind r ⌝ }
 {
-    tables::PRESENCE
+    match kind {
+        1 => tables::PRESENCE[0],
+        2 => tables::PRESENCE[1],
+        3 => tables::PRESENCE[2],
+        4 => tables::PRESENCE[3],
+        5 => tables::PRESENCE[4],
+        _ => tables::PRESENCE[5],
+    }
 }
 
 // Rule 4 by an entry of the table.
@@ -83,16 +84,14 @@ fn once_only(number: u16) -> bool
                     | (((number == 60) | (number == 61)) | is_listed_3gpp(number)))))
 }
 
-// Where the search for an earlier attribute ends: at the attribute's place, or at once where the number may stand again or where no
-// number of the area stands twice.
-fn search_end(number: u16, place: usize, repeated: bool) -> usize
-    ensures { λ r. ⌜ r ≡ searchEnd repeated number place ⌝ }
+// Where the search for an earlier attribute ends: at the attribute's place, or at once where the number was not seen or may stand again.
+fn search_end(number: u16, place: usize, seen: bool) -> usize
+    ensures { λ r. ⌜ r ≡ searchEnd seen number place ⌝ }
 {
-    if repeated & once_only(number) {
-        place
-    } else {
-        0
+    if !seen {
+        return 0;
     }
+    if once_only(number) { place } else { 0 }
 }
 
 // Rule 4: "not permitted here".
@@ -225,18 +224,18 @@ fn at_attribute(
     )
 }
 
-// Lays what the attributes of an area break, from the left. Rule 3, "an earlier attribute carries the same number": a walk from the
-// area's start, left at the first equal number; `repeated` says that some number of the area stands twice.
+// Lays what the attributes of an area break, from the left, and notes the numbers seen. Rule 3, "an earlier attribute carries the same
+// number": a walk from the area's start, left at the first equal number; a number that was not seen is not searched for.
 fn along(
     area: &[u8],
     codes: &[u8],
-    repeated: bool,
+    seen: &mut [bool; 512],
     kind: u32,
     flags: u32,
     list: &mut [u32],
 ) -> usize
-    requires { ⌜ Ready kind (now area) (now codes) × (repeated ≡ repeats [] (numbersOf (attributes (walk (now area))))) ⌝ }
-    ensures { λ r. ⌜ Passed kind flags (now (area .entry)) (now (list .entry)) r (now (list .exit)) ⌝ }
+    requires { ⌜ Ready kind (now area) (now codes) × Seen (now seen) [] ⌝ }
+    ensures { λ r. ⌜ Passed kind flags (now (area .entry)) (now (list .entry)) r (now (list .exit)) × Seen (now (seen .exit)) (numbersOf (attributes (walk (now (area .entry))))) ⌝ }
 {
     let mut place: usize = 0;
     let mut written: usize = 0;
@@ -244,7 +243,9 @@ fn along(
         let carried = area::carried_at(area, place);
         let number = carried.number;
         let value = carried.value;
-        let end = search_end(number, place, repeated);
+        let next = carried.next;
+        let n = number as usize;
+        let end = search_end(number, place, seen[n]);
         let mut again = false;
         let mut before: usize = 0;
         'search: while before < end {
@@ -255,29 +256,13 @@ fn along(
             }
             before = earlier.next;
         }
-        let v = octets::part(area, value.start, value.len);
+        seen[n] = true;
+        let start = value.start;
+        let v = &area[start..next];
         written = at_attribute(list, written, codes, kind, flags, place, number, v, again);
-        place = carried.next;
+        place = next;
     }
     written
-}
-
-// Which numbers the attributes of an area carry, and whether one of them stands twice.
-fn numbers_in(area: &[u8]) -> Numbers
-    requires { ⌜ fault (walk (now area)) ≡ none ⌝ }
-    ensures { λ r. ⌜ Noted (r .seen) (r .repeated) (numbersOf (attributes (walk (now (area .entry))))) ⌝ }
-{
-    let mut seen = [false; 512];
-    let mut repeated = false;
-    let mut place: usize = 0;
-    while place < area.len() {
-        let carried = area::carried_at(area, place);
-        let n = carried.number as usize;
-        repeated = repeated | seen[n];
-        seen[n] = true;
-        place = carried.next;
-    }
-    Numbers { seen, repeated }
 }
 
 // Rule 7: "Kinds 1, 2, 3, 6", where 3GPP 3 goes with plain attribute 7.
@@ -431,21 +416,14 @@ fn at_end_wanting(
 }
 
 // Passes over an area: lays the entries of its breaches into the list, as many as it has room for, and counts them all.
-fn pass(
-    area: &[u8],
-    codes: &[u8],
-    seen: &[bool; 512],
-    repeated: bool,
-    kind: u32,
-    flags: u32,
-    list: &mut [u32],
-) -> usize
-    requires { ⌜ Ready kind (now area) (now codes) × Noted (now seen) repeated (numbersOf (attributes (walk (now area)))) ⌝ }
+fn pass(area: &[u8], codes: &[u8], kind: u32, flags: u32, list: &mut [u32]) -> usize
+    requires { ⌜ Ready kind (now area) (now codes) ⌝ }
     ensures { λ r. ⌜ Laid (listOf kind flags (now (area .entry))) (now (list .entry)) 0 r (now (list .exit)) ⌝ }
 {
-    let at = along(area, codes, repeated, kind, flags, list);
-    let next = at_end_lacking(list, at, codes, seen, kind, area.len());
-    at_end_wanting(list, next, codes, seen, kind, flags, area.len())
+    let mut seen = [false; 512];
+    let at = along(area, codes, &mut seen, kind, flags, list);
+    let next = at_end_lacking(list, at, codes, &seen, kind, area.len());
+    at_end_wanting(list, next, codes, &seen, kind, flags, area.len())
 }
 
 // The list of an area that is admitted with its kind and flags, at the buffer's start, or refusal 10.
@@ -453,12 +431,9 @@ fn lay(area: &[u8], kind: u32, flags: u32, list: &mut [u32]) -> Checking
     requires { ⌜ Admitted kind flags (now area) ⌝ }
     ensures { λ r. ⌜ Checked kind flags (now (area .entry)) (now (list .entry)) r (now (list .exit)) ⌝ }
 {
-    let table = presence();
-    let codes = octets::part(&table, (kind as usize - 1) * 256, 256);
-    let numbers = numbers_in(area);
-    let seen = numbers.seen;
-    let repeated = numbers.repeated;
-    let needed = pass(area, codes, &seen, repeated, kind, flags, &mut list[..0]);
+    let row = presence(kind);
+    let codes = &row[..];
+    let needed = pass(area, codes, kind, flags, &mut list[..0]);
     if list.len() < needed {
         return Checking::Refused(Refusal {
             number: 10,
@@ -469,7 +444,7 @@ fn lay(area: &[u8], kind: u32, flags: u32, list: &mut [u32]) -> Checking
     if needed == 0 {
         return Checking::List(needed);
     }
-    pass(area, codes, &seen, repeated, kind, flags, list);
+    pass(area, codes, kind, flags, list);
     Checking::List(needed)
 }
 

@@ -59,7 +59,7 @@ module _ (l : List ℕ) (p : ℕ) where
   number-at = numberIn (getD l p 0) (getD l (p + 1) 0) form-at
 
   abbrev stored-at : List ℕ
-  stored-at = partOf l (p + 4) (size-at - 4)
+  stored-at = partOf l (p + 4) (storedLength form-at count-at)
 
   pub no-head : length l - p < 4 → enteredAt l p ≡ refused 22
   unfolding enteredAt entered
@@ -73,11 +73,9 @@ module _ (l : List ℕ) (p : ℕ) where
   unfolding enteredAt entered partOf
   judged-at g =
       let first : getD (drop p l) 0 0 ≡ getD l p 0 = getD-drop p l 0 0 ∙ ap (λ (k : ℕ). getD l k 0) (add-zero p) in
-      let size : size-at - 4 ≡ storedLength form-at count-at = omega arith in
       let whole : 4 + storedLength (getD (drop p l) 2 0) (getD (drop p l) 3 0) ≤ length (drop p l) = rw (getD-drop p l 2 0, getD-drop p l 3 0, length-drop p l) g in
       rw (length-drop p l, le-ltb (length l - p) 4 (omega arith), getD-drop p l 2 0, getD-drop p l 3 0, le-ltb (length l - p) size-at g)
-      (rw (first, getD-drop p l 1 0, getD-drop p l 2 0, getD-drop p l 3 0, drop-drop 4 p l) at (whole-stands (drop p l) whole)
-      ∙ ap (λ (k : ℕ). cond (standsFor (getD l p 0) (getD l (p + 1) 0) form-at count-at (take k (drop (p + 4) l))) (holds number-at (valueIn number-at form-at count-at (take k (drop (p + 4) l))) size-at) (refused 23)) (sym size))
+      (rw (first, getD-drop p l 1 0, getD-drop p l 2 0, getD-drop p l 3 0, drop-drop 4 p l) at (whole-stands (drop p l) whole))
 
   -- An item that is found at the place: its octets are there, and some readable attribute gives it.
   pub record FoundItem (n : ℕ) (v : List ℕ) (size : ℕ) : Type 0 where
@@ -104,7 +102,7 @@ module _ (l : List ℕ) (p : ℕ) where
           let room : size-at ≤ length l - p = ltb-false (length l - p) size-at g in
           judged room (standsFor (getD l p 0) (getD l (p + 1) 0) form-at count-at stored-at) refl (sym (judged-at room) ∙ e)
 
-  -- ---- What `item_at` answers, by k, which `stored_len` gave, and the part st of the sheet
+  -- ---- What `item_at` answers, by k, which `stored_len` gave
 
   pub refused-22 : (r : Entered) → r ≡ enteredOf l p (refused 22) → enteredAt l p ≡ refused 22 → r ≡ enteredOf l p (enteredAt l p)
   refused-22 r e h = e ∙ ap (enteredOf l p) (sym h)
@@ -113,31 +111,28 @@ module _ (l : List ℕ) (p : ℕ) where
     pub cut-short : 4 ≤ length l - p → length l - p < 4 + k → enteredAt l p ≡ refused 22
     cut-short h g = no-stored h (omega (arith, is))
 
-    module _ (st : List ℕ) (part : st ≡ partOf l (p + 4) (4 + k - 4)) (room : 4 + k ≤ length l - p) where
-      part-is : st ≡ stored-at
-      part-is = part ∙ ap (λ (n : ℕ). partOf l (p + 4) (4 + n - 4)) is
+    -- the stored octets, from behind the head to the place behind the item
+    pub stored-part : take (p + (4 + k) - (p + 4)) (drop (p + 4) l) ≡ stored-at
+    unfolding partOf
+    stored-part = let size : p + (4 + k) - (p + 4) ≡ storedLength form-at count-at = omega (arith, is) in rw size
 
-      pub stored-long : length st ≡ storedLength form-at count-at
-      unfolding partOf
-      stored-long = ap length part ∙ length-take-le (4 + k - 4) (drop (p + 4) l) (omega (arith, length-drop (p + 4) l)) ∙ omega (arith, is)
+    -- what the judgement said of them
+    module _ (room : 4 + k ≤ length l - p) (b : Bool) (judged : b ≡ standsFor (getD l p 0) (getD l (p + 1) 0) form-at count-at (take (p + (4 + k) - (p + 4)) (drop (p + 4) l))) where
+      found : enteredAt l p ≡ cond b (holds number-at (valueIn number-at form-at count-at stored-at) size-at) (refused 23)
+      found =
+          judged-at (omega (arith, is))
+          ∙ ap (λ (t : Bool). cond t (holds number-at (valueIn number-at form-at count-at stored-at) size-at) (refused 23))
+          (ap (standsFor (getD l p 0) (getD l (p + 1) 0) form-at count-at) (sym stored-part) ∙ sym judged)
 
-      -- what the judgement said of them
-      module _ (b : Bool) (judged : b ≡ standsFor (getD l p 0) (getD l (p + 1) 0) form-at count-at st) where
-        found : enteredAt l p ≡ cond b (holds number-at (valueIn number-at form-at count-at stored-at) size-at) (refused 23)
-        found =
-            judged-at (omega (arith, is))
-            ∙ ap (λ (t : Bool). cond t (holds number-at (valueIn number-at form-at count-at stored-at) size-at) (refused 23))
-            (ap (standsFor (getD l p 0) (getD l (p + 1) 0) form-at count-at) (sym part-is) ∙ sym judged)
+      pub refused-23 : (r : Entered) → r ≡ enteredOf l p (refused 23) → b ≡ false → r ≡ enteredOf l p (enteredAt l p)
+      refused-23 r e f =
+          let h : enteredAt l p ≡ refused 23 = found ∙ rw f in
+          e ∙ ap (enteredOf l p) (sym h)
 
-        pub refused-23 : (r : Entered) → r ≡ enteredOf l p (refused 23) → b ≡ false → r ≡ enteredOf l p (enteredAt l p)
-        refused-23 r e f =
-            let h : enteredAt l p ≡ refused 23 = found ∙ rw f in
-            e ∙ ap (enteredOf l p) (sym h)
-
-        pub item-stands : (n : ℕ) → n ≡ number-at → b ≡ true → Item n form-at count-at (p + (4 + k)) ≡ enteredOf l p (enteredAt l p)
-        item-stands n e f =
-            let h : enteredAt l p ≡ holds number-at (valueIn number-at form-at count-at stored-at) size-at = found ∙ rw f in
-            rw (e, is) (ap (enteredOf l p) (sym h))
+      pub item-stands : (n : ℕ) → n ≡ number-at → b ≡ true → Item n form-at count-at (p + (4 + k)) ≡ enteredOf l p (enteredAt l p)
+      item-stands n e f =
+          let h : enteredAt l p ≡ holds number-at (valueIn number-at form-at count-at stored-at) size-at = found ∙ rw f in
+          rw (e, is) (ap (enteredOf l p) (sym h))
 
 -- ---- For a caller of `item_at`
 

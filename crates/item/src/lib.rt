@@ -188,13 +188,7 @@ pub fn item_at(sheet: &[u8], place: usize) -> Entered
     let t = sheet[place];
     let sub = sheet[place + 1];
     let next = place + size;
-    if !stands(
-        t,
-        sub,
-        form,
-        count,
-        octets::part(sheet, place + 4, size - 4),
-    ) {
+    if !stands(t, sub, form, count, &sheet[place + 4..next]) {
         return refused(sheet, 23, place);
     }
     Entered::Item {

@@ -15,7 +15,6 @@ use Rattle.meaning.proofs.Tests.{parts}
 use Rattle.meaning.proofs.Framing.{plain-lines, gpp-lines}
 use Rattle.meaning.proofs.Items.{Accepted, entered-holds}
 use Rattle.octets.specs.Parts.{partOf}
-use Rattle.item.specs.Stands.{standsFor}
 use Rattle.item.specs.Answers.{enteredAt}
 use Rattle.item.proofs.Entering.{found-item}
 use Rattle.area.specs.Answers.{headLength}
@@ -86,12 +85,10 @@ module _ (l : List ℕ) (p : ℕ) (o : Octets l) where
   entry-at n v size e =
       let f = found-item l p n v size e in
       let a = accepted-at n v size e in
-      let cut : partOf l (p + 4) (4 + storedLength form-at count-at - 4) ≡ stored-at = ap (partOf l (p + 4)) (omega arith) in
-      let st : standsFor (getD l p 0) (getD l (p + 1) 0) form-at count-at stored-at ≡ true = rw cut at (f .stands) in
       let long = stored-long (f .room) in
-      let k = shown (getD l p 0) (getD l (p + 1) 0) form-at count-at stored-at (octet-at l p o) stored-octets long st in
+      let k = shown (getD l p 0) (getD l (p + 1) 0) form-at count-at stored-at (octet-at l p o) stored-octets long (f .stands) in
       let named : n ≡ numberIn (getD l p 0) (getD l (p + 1) 0) form-at = f .number-is in
-      let value : v ≡ valueAs n form-at count-at stored-at = f .value-is ∙ rw cut (k .value-is) ∙ ap (λ (m : ℕ). valueAs m form-at count-at stored-at) (sym named) in
+      let value : v ≡ valueAs n form-at count-at stored-at = f .value-is ∙ k .value-is ∙ ap (λ (m : ℕ). valueAs m form-at count-at stored-at) (sym named) in
       let size-long : length (valueAs n form-at count-at stored-at) ≡ valueLength form-at count-at = ap (λ (m : ℕ). length (valueAs m form-at count-at stored-at)) named ∙ k .value-long in
       record {
         number-is = named;

@@ -4,7 +4,7 @@ use mathlib.Core.Path.{_≡_, refl, sym, ap, subst, _∙_}
 use mathlib.Core.List.{List, [], _∷_, _++_, append-nil, append-assoc}
 use Prim.Native.Nat.{ℕ, _+_, _-_, _<_, _≤_}
 use native.Mathlib.Omega.{arith}
-use lib.ListN.{length, drop, getD, length-append}
+use lib.ListN.{length, take, drop, getD, length-append}
 use Rattle.meaning.specs.Octets.{Octets, numberOf}
 use Rattle.meaning.specs.Framing.{Walk, next, attributes}
 use Rattle.meaning.specs.Refusals.{none, fault}
@@ -15,6 +15,7 @@ use Rattle.meaning.proofs.RoundTrip.{no-refusal}
 use Rattle.octets.specs.Parts.{partOf, laidAt}
 use Rattle.octets.proofs.Overs.{over-none, laid-behind}
 use Rattle.item.specs.Answers.{enteredAt}
+use Rattle.item.proofs.Entering.{stored-part}
 use Rattle.area.specs.Answers.{headLength}
 use Rattle.writing.specs.Attributes.{valueLength, valueAs, Written}
 use Rattle.writing.specs.Answers as answers
@@ -106,10 +107,14 @@ module _ (l d out : List ℕ) (left place written : ℕ) (k : Laying l d out lef
       pub item-inside : place + (4 + s) ≤ length l
       item-inside = omega (arith, entry .inside, same-size)
 
-      pub item-written : (st : List ℕ) → st ≡ partOf l (place + 4) s → Written n form-at count-at st
-      item-written st e =
-          subst (λ (m : ℕ). Written m form-at count-at st) same-number
-          (subst (Written (here .number) form-at count-at) (sym (e ∙ ap (partOf l (place + 4)) size-is)) (entry .written))
+      -- the octets from behind the head to the place behind the item
+      abbrev stored-at : List ℕ
+      stored-at = take (place + (4 + s) - (place + 4)) (drop (place + 4) l)
+
+      pub item-written : Written n form-at count-at stored-at
+      item-written =
+          subst (λ (m : ℕ). Written m form-at count-at stored-at) same-number
+          (subst (Written (here .number) form-at count-at) (sym (stored-part l place s size-is)) (entry .written))
 
       long-attribute : length (attributeOctets (here .number) (here .value)) ≡ headLength n + valueLength form-at count-at
       long-attribute = attribute-long ∙ ap (λ (m : ℕ). headLength m + valueLength form-at count-at) same-number
@@ -122,11 +127,11 @@ module _ (l d out : List ℕ) (left place written : ℕ) (k : Laying l d out lef
       pub item-fits : written + (headLength n + valueLength form-at count-at) ≤ length out
       item-fits = omega (arith, fits, k .kept)
 
-      pub laying-more : (st after : List ℕ) → st ≡ partOf l (place + 4) s → length after ≡ length out → after ≡ laidAt written (attributeOctets n (valueAs n form-at count-at st)) out → Laying l d after (left - 1) (place + (4 + s)) (written + (headLength n + valueLength form-at count-at))
+      pub laying-more : (after : List ℕ) → length after ≡ length out → after ≡ laidAt written (attributeOctets n (valueAs n form-at count-at stored-at)) out → Laying l d after (left - 1) (place + (4 + s)) (written + (headLength n + valueLength form-at count-at))
       unfolding rest attributes
-      laying-more st after e len h =
-          let same : attributeOctets n (valueAs n form-at count-at st) ≡ attributeOctets (here .number) (here .value) =
-          rw (e ∙ ap (partOf l (place + 4)) size-is, sym same-number) (ap (attributeOctets (here .number)) (sym (entry .value-is))) in
+      laying-more after len h =
+          let same : attributeOctets n (valueAs n form-at count-at stored-at) ≡ attributeOctets (here .number) (here .value) =
+          rw (stored-part l place s size-is, sym same-number) (ap (attributeOctets (here .number)) (sym (entry .value-is))) in
           let laid : laidAt written (attributeOctets (here .number) (here .value)) out ≡ over (k .gone ++ attributeOctets (here .number) (here .value)) d =
           laid-behind (k .gone) (attributeOctets (here .number) (here .value)) d out written (k .long) (k .held) (omega (arith, fits, long-attribute)) in
           record {

@@ -45,13 +45,13 @@ fn value_len(form: u8, count: u8) -> usize
 
 // Lays the head of an attribute whose value has so many octets.
 fn put_head(buf: &mut [u8], at: usize, number: u16, len: usize)
-    requires { ⌜ (number < 512) × (headLength number + len < 256) ⌝ }
+    requires { ⌜ (number < 512) × ((headLength number + len < 256) × (at + headLength number ≤ length (now buf))) ⌝ }
     ensures { λ _. ⌜ now (buf .exit) ≡ laidAt at (attributeHead number len) (now (buf .entry)) ⌝ }
 {
     let own = (len + 2) as u8;
     if number < 256 {
-        let head = [number as u8, own];
-        octets::copy_at(buf, at, &head);
+        buf[at] = number as u8;
+        buf[at + 1] = own;
         return;
     }
     let head = [
@@ -196,17 +196,11 @@ fn lay(sheet: &[u8], area: &mut [u8])
         let form = sheet[place + 2];
         let count = sheet[place + 3];
         let number = item::number_in(sheet[place], sheet[place + 1], form);
-        let size = shape::stored_len(form, count as usize);
-        put_attribute(
-            area,
-            written,
-            number,
-            form,
-            count,
-            octets::part(sheet, place + 4, size),
-        );
+        let size = 4 + shape::stored_len(form, count as usize);
+        let next = place + size;
+        put_attribute(area, written, number, form, count, &sheet[place + 4..next]);
         written += area::head_len(number) + value_len(form, count);
-        place += 4 + size;
+        place = next;
         left -= 1;
     }
 }

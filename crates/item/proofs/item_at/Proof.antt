@@ -4,7 +4,7 @@ use borrow.Author.Tests.{not-true, not-false}
 use native.Mathlib.Omega.{arith}
 use Prim.Native.Nat.{_+_}
 use lib.ListN.{getD}
-use Rattle.item.proofs.Entering.{stored-low, no-head, refused-22, cut-short, stored-long, refused-23, item-stands}
+use Rattle.item.proofs.Entering.{stored-low, no-head, refused-22, cut-short, refused-23, item-stands}
 use Rattle.item.proofs.item_at.Statement.{statement}
 use Rattle.item.proofs.item_at.Tie as tie
 
@@ -62,29 +62,32 @@ shared-slice-read-sub c = search needs
 add-next : tie.Need-add-next
 add-next c = search needs
 
-add-part : tie.Need-add-part
-add-part c = search needs
+add-stands : tie.Need-add-stands
+add-stands c = search needs
 
-sub-part : tie.Need-sub-part
-sub-part c = search needs
+sub-stands : tie.Need-sub-stands
+sub-stands c = search needs
 
-part-requires : tie.Need-part-requires
-part-requires c κs = search needs
+part-stands-start : tie.Need-part-stands-start
+part-stands-start c = search needs
+
+part-stands-end : tie.Need-part-stands-end
+part-stands-end c = search needs
 
 stands-requires : tie.Need-stands-requires
-stands-requires c κs = stored-long _ _ _ (c .before .before .before .before .stored-len .ensures) _ (c .part .ensures) (omega arith)
+stands-requires c κs = search needs
 
 refused-requires-4 : tie.Need-refused-requires-4
 refused-requires-4 c κs = search needs
 
 returns-4 : tie.Need-returns-4
-returns-4 c = refused-23 _ _ _ (c .before .before .before .before .before .before .before .stored-len .ensures) _ (c .before .before .before .part .ensures) (omega arith) _ (c .before .before .stands .ensures) _ (c .refused4 .ensures) (not-true _ (c .before .if4 .taken))
+returns-4 c = refused-23 _ _ _ (c .before .before .before .before .before .before .before .stored-len .ensures) (omega arith) _ (c .before .before .stands .ensures) _ (c .refused4 .ensures) (not-true _ (c .before .if4 .taken))
 
 number-in-requires : tie.Need-number-in-requires
 number-in-requires c κs = search needs
 
 returns-5 : tie.Need-returns-5
-returns-5 c = item-stands _ _ _ (c .before .before .before .before .before .before .before .stored-len .ensures) _ (c .before .before .before .part .ensures) (omega arith) _ (c .before .before .stands .ensures) _ (c .number-in .ensures) (not-false _ (c .before .if4 .left))
+returns-5 c = item-stands _ _ _ (c .before .before .before .before .before .before .before .stored-len .ensures) (omega arith) _ (c .before .before .stands .ensures) _ (c .number-in .ensures) (not-false _ (c .before .if4 .left))
 
 pub item-at-spec : {M : Type 1} → statement M
 item-at-spec =
@@ -108,9 +111,10 @@ item-at-spec =
     add-sub
     shared-slice-read-sub
     add-next
-    add-part
-    sub-part
-    part-requires
+    add-stands
+    sub-stands
+    part-stands-start
+    part-stands-end
     stands-requires
     refused-requires-4
     returns-4

@@ -34,6 +34,12 @@ room k = k .before .before .before .before .before .pre .1
 head : (k : tie.In-loop Inv-loop μ-loop) → k .before .loop .place + 4 ≤ length (k .before .before .before .before .before .args .sheet .now)
 head k = head-inside _ _ _ _ _ _ (inv k) (some k) (octets k)
 
+-- the octets that it stores are there
+whole : (d : tie.After-stored-len Inv-loop μ-loop) →
+    (let k = d .before .before .before .before .before .before in
+    k .before .loop .place + (4 + d .stored-len .result) ≤ length (k .before .before .before .before .before .args .sheet .now))
+whole d = let k = d .before .before .before .before .before .before in item-inside _ _ _ _ _ _ (inv k) (some k) (octets k) _ _ (d .before .number-in .ensures) (d .stored-len .ensures) (room k)
+
 u16-at-requires : tie.Need-u16-at-requires Inv-loop μ-loop
 u16-at-requires c κs = search needs
 
@@ -75,15 +81,27 @@ cast-stored-len c =
 stored-len-requires : tie.Need-stored-len-requires Inv-loop μ-loop
 stored-len-requires c κs = search needs
 
-add-part : tie.Need-add-part Inv-loop μ-loop
-add-part c = omega (arith, head (c .before .before .before .before .before .before .before), c .before .before .before .before .before .before .before .before .before .before .before .before .good)
+add-size : tie.Need-add-size Inv-loop μ-loop
+add-size c = omega (arith, whole c, c .before .before .before .before .before .before .before .before .before .before .before .good)
 
-part-requires : tie.Need-part-requires Inv-loop μ-loop
-part-requires c κs = search needs
+add-next : tie.Need-add-next Inv-loop μ-loop
+add-next c = omega (arith, whole c, c .before .before .before .before .before .before .before .before .before .before .before .good)
+
+add-put-attribute : tie.Need-add-put-attribute Inv-loop μ-loop
+add-put-attribute c = omega (arith, whole (c .before), c .before .before .before .before .before .before .before .before .before .before .before .before .good)
+
+sub-put-attribute : tie.Need-sub-put-attribute Inv-loop μ-loop
+sub-put-attribute c = omega arith
+
+part-put-attribute-start : tie.Need-part-put-attribute-start Inv-loop μ-loop
+part-put-attribute-start c = omega arith
+
+part-put-attribute-end : tie.Need-part-put-attribute-end Inv-loop μ-loop
+part-put-attribute-end c = omega (arith, whole (c .before))
 
 put-attribute-requires : tie.Need-put-attribute-requires Inv-loop μ-loop
 put-attribute-requires c κs = let k = c .before .before .before .before .before .before .before .before in (
-  item-written _ _ _ _ _ _ (inv k) (some k) (octets k) _ _ (c .before .before .before .number-in .ensures) (c .before .before .stored-len .ensures) (room k) _ (c .part .ensures),
+  item-written _ _ _ _ _ _ (inv k) (some k) (octets k) _ _ (c .before .before .before .number-in .ensures) (c .before .before .stored-len .ensures) (room k),
   item-fits _ _ _ _ _ _ (inv k) (some k) (octets k) _ _ (c .before .before .before .number-in .ensures) (c .before .before .stored-len .ensures) (room k),
 )
 
@@ -95,23 +113,13 @@ value-len-requires c κs = search needs
 
 add-written : tie.Need-add-written Inv-loop μ-loop
 add-written c = let k = c .before .before .before .before .before .before .before .before .before .before .before .before .before in
-    let w = item-written _ _ _ _ _ _ (inv k) (some k) (octets k) _ _ (c .before .before .before .before .before .before .before .before .number-in .ensures) (c .before .before .before .before .before .before .before .stored-len .ensures) (room k) _ (c .before .before .before .before .before .part .ensures) in
+    let w = item-written _ _ _ _ _ _ (inv k) (some k) (octets k) _ _ (c .before .before .before .before .before .before .before .before .number-in .ensures) (c .before .before .before .before .before .before .before .stored-len .ensures) (room k) in
     omega (arith, w .short, c .before .head-len .ensures, c .value-len .ensures)
 
 add-written-2 : tie.Need-add-written-2 Inv-loop μ-loop
 add-written-2 c = let k = c .before .before .before .before .before .before .before .before .before .before .before .before .before in
     let f = item-fits _ _ _ _ _ _ (inv k) (some k) (octets k) _ _ (c .before .before .before .before .before .before .before .before .number-in .ensures) (c .before .before .before .before .before .before .before .stored-len .ensures) (room k) in
     omega (arith, f, c .before .head-len .ensures, c .value-len .ensures, k .before .loop .inv .kept, c .before .before .before .before .before .before .before .before .before .before .before .before .before .before .before .before .before .before .good)
-
-add-place : tie.Need-add-place Inv-loop μ-loop
-add-place c = let k = c .before .before .before .before .before .before .before .before .before .before .before .before .before in
-    let i = item-inside _ _ _ _ _ _ (inv k) (some k) (octets k) _ _ (c .before .before .before .before .before .before .before .before .number-in .ensures) (c .before .before .before .before .before .before .before .stored-len .ensures) (room k) in
-    omega (arith, i, c .before .before .before .before .before .before .before .before .before .before .before .before .before .before .before .before .before .before .good)
-
-add-place-2 : tie.Need-add-place-2 Inv-loop μ-loop
-add-place-2 c = let k = c .before .before .before .before .before .before .before .before .before .before .before .before .before in
-    let i = item-inside _ _ _ _ _ _ (inv k) (some k) (octets k) _ _ (c .before .before .before .before .before .before .before .before .number-in .ensures) (c .before .before .before .before .before .before .before .stored-len .ensures) (room k) in
-    omega (arith, i, c .before .before .before .before .before .before .before .before .before .before .before .before .before .before .before .before .before .before .good)
 
 sub-left : tie.Need-sub-left Inv-loop μ-loop
 sub-left c = omega (arith, c .before .before .before .before .before .before .before .before .before .before .before .before .before .loop-test .taken)
@@ -122,7 +130,7 @@ loop-less c = omega (arith, c .before .before .before .before .before .before .b
 loop-again : tie.Need-loop-again Inv-loop μ-loop
 loop-again c = let k = c .before .before .before .before .before .before .before .before .before .before .before .before .before in
     rw (c .before .head-len .ensures, c .value-len .ensures)
-    (laying-more _ _ _ _ _ _ (inv k) (some k) (octets k) _ _ (c .before .before .before .before .before .before .before .before .number-in .ensures) (c .before .before .before .before .before .before .before .stored-len .ensures) (room k) _ _ (c .before .before .before .before .before .part .ensures) (c .before .before .before .before .put-attribute .kept .0) (c .before .before .before .before .put-attribute .ensures))
+    (laying-more _ _ _ _ _ _ (inv k) (some k) (octets k) _ _ (c .before .before .before .before .before .before .before .before .number-in .ensures) (c .before .before .before .before .before .before .before .stored-len .ensures) (room k) _ (c .before .before .before .before .put-attribute .kept .0) (c .before .before .before .before .put-attribute .ensures))
 
 same-length : tie.Need-same-length Inv-loop μ-loop
 same-length c = c .before .loop .inv .kept
@@ -149,15 +157,17 @@ lay-spec =
     number-in-requires
     cast-stored-len
     stored-len-requires
-    add-part
-    part-requires
+    add-size
+    add-next
+    add-put-attribute
+    sub-put-attribute
+    part-put-attribute-start
+    part-put-attribute-end
     put-attribute-requires
     head-len-requires
     value-len-requires
     add-written
     add-written-2
-    add-place
-    add-place-2
     sub-left
     loop-less
     loop-again

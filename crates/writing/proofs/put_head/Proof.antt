@@ -1,10 +1,11 @@
 -- Two octets, or eight. Assumes nothing.
 use borrow.Author.Needs.{needs}
 use native.Mathlib.Omega.{arith}
+use lib.ListN.{length-set}
 use Rattle.octets.proofs.Overs.{laid-as}
 use mathlib.Core.Path.{sym}
 use Rattle.area.proofs.Carrying.{gpp-head-length}
-use Rattle.writing.proofs.Putting.{head-two, plain-head, gpp-head}
+use Rattle.writing.proofs.Putting.{head-two, plain-laid, gpp-head}
 use Rattle.writing.proofs.put_head.Statement.{statement}
 use Rattle.writing.proofs.put_head.Tie as tie
 
@@ -12,10 +13,34 @@ add-own : tie.Need-add-own
 add-own c = search needs
 
 cast-own : tie.Need-cast-own
-cast-own c = omega (arith, c .before .pre .1, head-two (c .before .args .number))
+cast-own c = omega (arith, c .before .pre .1 .0, head-two (c .before .args .number))
 
-cast-t10 : tie.Need-cast-t10
-cast-t10 c = search needs
+cast-buf : tie.Need-cast-buf
+cast-buf c = search needs
+
+slice-write-buf : tie.Need-slice-write-buf
+slice-write-buf c = omega (arith, c .before .before .pre .1 .1, head-two (c .before .before .args .number))
+
+add-buf : tie.Need-add-buf
+add-buf c = search needs
+
+slice-write-buf-2 : tie.Need-slice-write-buf-2
+slice-write-buf-2 c = simp length-set (omega (arith, c .before .before .pre .1 .1, head-two (c .before .before .args .number)))
+
+same-length : tie.Need-same-length
+same-length c = search needs
+
+returns : tie.Need-returns
+returns c = plain-laid _ _ _ _ (c .if1 .taken) (c .before .before .pre .1 .1)
+
+add-t7 : tie.Need-add-t7
+add-t7 c = search needs
+
+cast-t13 : tie.Need-cast-t13
+cast-t13 c = omega (arith, c .before .before .pre .1 .0, gpp-head-length (c .before .before .args .number) (c .if1 .left))
+
+cast-t15 : tie.Need-cast-t15
+cast-t15 c = search needs
 
 slice-aggregate-copy-at : tie.Need-slice-aggregate-copy-at
 slice-aggregate-copy-at c = search needs
@@ -23,32 +48,11 @@ slice-aggregate-copy-at c = search needs
 copy-at-requires : tie.Need-copy-at-requires
 copy-at-requires c κs = search needs
 
-same-length : tie.Need-same-length
-same-length c = search needs
-
-returns : tie.Need-returns
-returns c = laid-as _ _ _ _ _ (sym (plain-head _ _ (c .before .before .before .before .before .if1 .taken))) (c .before .before .copy-at .ensures .holds)
-
-add-t8 : tie.Need-add-t8
-add-t8 c = search needs
-
-cast-t16 : tie.Need-cast-t16
-cast-t16 c = omega (arith, c .before .before .pre .1, gpp-head-length (c .before .before .args .number) (c .if1 .left))
-
-cast-t18 : tie.Need-cast-t18
-cast-t18 c = search needs
-
-slice-aggregate-copy-at-2 : tie.Need-slice-aggregate-copy-at-2
-slice-aggregate-copy-at-2 c = search needs
-
-copy-at-requires-2 : tie.Need-copy-at-requires-2
-copy-at-requires-2 c κs = search needs
-
 same-length-2 : tie.Need-same-length-2
 same-length-2 c = search needs
 
 returns-2 : tie.Need-returns-2
-returns-2 c = laid-as _ _ _ _ _ (sym (gpp-head _ _ (c .before .before .before .before .before .if1 .left))) (c .before .before .copy-at2 .ensures .holds)
+returns-2 c = laid-as _ _ _ _ _ (sym (gpp-head _ _ (c .before .before .before .before .before .if1 .left))) (c .before .before .copy-at .ensures .holds)
 
 pub put-head-spec : {M : Type 1} → statement M
 put-head-spec =
@@ -56,15 +60,16 @@ put-head-spec =
     (tie.spec
     add-own
     cast-own
-    cast-t10
-    slice-aggregate-copy-at
-    copy-at-requires
+    cast-buf
+    slice-write-buf
+    add-buf
+    slice-write-buf-2
     same-length
     returns
-    add-t8
-    cast-t16
-    cast-t18
-    slice-aggregate-copy-at-2
-    copy-at-requires-2
+    add-t7
+    cast-t13
+    cast-t15
+    slice-aggregate-copy-at
+    copy-at-requires
     same-length-2
     returns-2)
