@@ -3,9 +3,10 @@ use mathlib.Core.Path.{_≡_, refl, sym, ap, _∙_}
 use mathlib.Core.Bool.{Bool, true, false, cond}
 use mathlib.Core.List.{List, [], _∷_, _++_, append-assoc}
 use Prim.Native.Nat.{ℕ, suc, _+_, _-_, _*_, _%_, _≤_, _<_}
+use native.Mathlib.Nat.{add-zero}
 use native.Mathlib.Omega.{arith}
 use lib.Dec.{eqb}
-use lib.ListN.{length, take, drop, getD, length-append, length-drop}
+use lib.ListN.{length, take, drop, getD, set, length-append, length-drop}
 use lib.Seq.{take-at, take-all, take-add, drop-at, drop-drop, length-take-le}
 use borrow.Author.Tests.{eq-eqb, ne-eqb, lt-ltb, le-ltb}
 use Rattle.meaning.specs.Octets.{octetsOf, pack, packedLength, digitValue}
@@ -14,7 +15,7 @@ use Rattle.octets.specs.Parts.{partOf, laidAt}
 use Rattle.octets.specs.DigitStrings.{halves, packedOf}
 use Rattle.octets.specs.declared.Digits.{Digits}
 use Rattle.octets.specs.declared.Packed.{Packed}
-use Rattle.octets.proofs.Overs.{laid-two, laid-fits, laid-length}
+use Rattle.octets.proofs.Overs.{Begun, begun-none, begun-more, begun-all, laid-two, laid-fits, laid-length, laid-keeps}
 use Rattle.octets.proofs.Halves.{halves-packed}
 use Rattle.area.specs.declared.Part.{Part}
 use Rattle.shape.specs.declared.Item.{Item}
@@ -28,6 +29,11 @@ laid-if b at s t d out e h = h ∙ rw e
 
 pub laid-else : (b : Bool) (at : ℕ) (s t d out : List ℕ) → b ≡ false → out ≡ laidAt at t d → out ≡ laidAt at (cond b s t) d
 laid-else b at s t d out e h = h ∙ rw e
+
+-- a number of four octets has room where what is laid by the form has
+pub four-room : (f n at room : ℕ) → (f ≡ 7 → ⊥) → at + length (cond (eqb f 7) ((n % 256) ∷ []) (octetsOf 4 n)) ≤ room → at + 4 ≤ room
+unfolding octetsOf
+four-room f n at room d h = rw (ne-eqb f 7 d) at h
 
 -- ---- The forms of plain octets
 
@@ -64,6 +70,15 @@ qos-laid v digits release at buf first out r q room f h =
     let e : digits ≡ drop 3 v = q ∙ take-all (length v) (drop 3 v) (omega (arith, length-drop 3 v)) in
     let m : length (pack (halves (drop 3 v))) ≡ packedLength (length v - 3) = halves-packed (drop 3 v) ∙ ap packedLength (length-drop 3 v) in
     h ∙ rw (f, e, r) (laid-two at 1 (((digitValue (getD v 0 0) * 10 + digitValue (getD v 1 0)) % 256) ∷ []) (pack (halves (drop 3 v))) buf refl (omega arith))
+
+-- four octets, stored one behind the other
+pub four-laid : (at : ℕ) (s d : List ℕ) → length s ≡ 4 → at + 4 ≤ length d → set (set (set (set d at (getD s 0 0)) (at + 1) (getD s 1 0)) (at + 2) (getD s 2 0)) (at + 3) (getD s 3 0) ≡ laidAt at s d
+four-laid at s d size room =
+    let none : Begun at s d d 0 = begun-none at s d (omega (arith, size)) in
+    let one : Begun at s d (set d at (getD s 0 0)) 1 = rw (add-zero at) at (begun-more at s d d 0 none (omega (arith, size))) in
+    let two = begun-more at s d _ 1 one (omega (arith, size)) in
+    let three = begun-more at s d _ 2 two (omega (arith, size)) in
+    begun-all at s d _ 4 (begun-more at s d _ 3 three (omega (arith, size))) (omega (arith, size))
 
 -- A piece laid before another that was laid already: both stand as one.
 laid-before : (at n : ℕ) (s t d : List ℕ) → length s ≡ n → at + (n + length t) ≤ length d → laidAt at s (laidAt (at + n) t d) ≡ laidAt at (s ++ t) d
@@ -103,6 +118,14 @@ module _ (area : List ℕ) (i : Item) where
   unfolding storedIn storedValue
   part-stored p e = rw e
 
+  -- a number and an address have room where the item's stored octets have
+  pub number-room : (n at room : ℕ) → i .value ≡ is.Number n → at + length (storedIn area i) ≤ room → at + length (cond (eqb (i .form) 7) ((n % 256) ∷ []) (octetsOf 4 n)) ≤ room
+  number-room n at room e h = omega (arith, h, ap length (number-stored n e))
+
+  pub address-room : (n at room : ℕ) → i .value ≡ is.Address n → at + length (storedIn area i) ≤ room → at + 4 ≤ room
+  unfolding octetsOf
+  address-room n at room e h = omega (arith, h, ap length (address-stored n e))
+
   -- plain octets have room where the item's stored octets have
   pub part-room : (p : Part) (v : List ℕ) (at room : ℕ) → i .value ≡ is.Plain p → v ≡ partOf area (p .start) (p .len) → at + length (storedIn area i) ≤ room → at + length (storedPart (i .form) v) ≤ room
   part-room p v at room e q h =
@@ -110,9 +133,9 @@ module _ (area : List ℕ) (i : Item) where
       omega (arith, ap length same)
 
   -- an item is its head and what it stores
-  pub item-laid : (at : ℕ) (head buf first out : List ℕ) → head ≡ headOf i → at + length (itemIn area i) ≤ length buf → first ≡ laidAt (at + 4) (storedIn area i) buf → out ≡ laidAt at head first → out ≡ laidAt at (itemIn area i) buf
+  pub item-laid : (at : ℕ) (buf first out : List ℕ) → at + length (itemIn area i) ≤ length buf → first ≡ laidAt (at + 4) (storedIn area i) buf → out ≡ laidAt at (headOf i) first → out ≡ laidAt at (itemIn area i) buf
   unfolding itemIn headOf
-  item-laid at head buf first out e room f h = h ∙ rw (f, e) (laid-before at 4 (headOf i) (storedIn area i) buf refl (omega arith))
+  item-laid at buf first out room f h = h ∙ rw f (laid-before at 4 (headOf i) (storedIn area i) buf refl (omega arith))
 
   pub item-length : length (itemIn area i) ≡ 4 + length (storedIn area i)
   unfolding itemIn headOf
@@ -125,6 +148,10 @@ plain-head i h = rw (lt-ltb (i .number) 256 h)
 pub gpp-head : (i : Item) → 256 ≤ i .number → 26 ∷ (i .number - 256) ∷ i .form ∷ i .count ∷ [] ≡ headOf i
 unfolding headOf
 gpp-head i h = rw (le-ltb (i .number) 256 h)
+
+-- an item has four octets before those that it stores
+pub head-room : (area : List ℕ) (i : Item) (at : ℕ) (d out : List ℕ) → at + length (itemIn area i) ≤ length d → out ≡ laidAt (at + 4) (storedIn area i) d → at + 4 ≤ length out
+head-room area i at d out h e = laid-keeps (at + 4) (storedIn area i) d out (at + 4) e (omega (arith, h, item-length area i))
 
 -- an item's stored octets have room where the item has
 pub item-room : (area : List ℕ) (i : Item) (at room : ℕ) → at + length (itemIn area i) ≤ room → at + 4 + length (storedIn area i) ≤ room

@@ -32,8 +32,20 @@ fn release_of(text: &[u8]) -> u8
     ((tens * 10 + ones) % 256) as u8
 }
 
+// Lays four octets, which have room there.
+fn put_four(buf: &mut [u8], at: usize, four: [u8; 4])
+    requires { ⌜ at + 4 ≤ length (now buf) ⌝ }
+    ensures { λ _. ⌜ now (buf .exit) ≡ laidAt at four (now (buf .entry)) ⌝ }
+{
+    buf[at] = four[0];
+    buf[at + 1] = four[1];
+    buf[at + 2] = four[2];
+    buf[at + 3] = four[3];
+}
+
 // Lays a number: one octet in form 7, else four.
 fn put_number(buf: &mut [u8], at: usize, form: u8, n: u32)
+    requires { ⌜ at + length (cond (eqb form 7) ((n % 256) ∷ []) (octetsOf 4 n)) ≤ length (now buf) ⌝ }
     ensures { λ _. ⌜ now (buf .exit) ≡ laidAt at (cond (eqb form 7) ((n % 256) ∷ []) (octetsOf 4 n)) (now (buf .entry)) ⌝ }
 {
     if form == 7 {
@@ -41,8 +53,7 @@ fn put_number(buf: &mut [u8], at: usize, form: u8, n: u32)
         octets::copy_at(buf, at, &one);
         return;
     }
-    let four = octets::u32_octets(n);
-    octets::copy_at(buf, at, &four);
+    put_four(buf, at, octets::u32_octets(n));
 }
 
 // Lays digits, two to an octet.
@@ -93,8 +104,7 @@ fn put_stored(buf: &mut [u8], at: usize, area: &[u8], item: Item)
             return;
         }
         Value::Address(n) => {
-            let four = octets::u32_octets(n);
-            octets::copy_at(buf, at, &four);
+            put_four(buf, at, octets::u32_octets(n));
             return;
         }
         Value::Digits => {
@@ -109,18 +119,19 @@ fn put_stored(buf: &mut [u8], at: usize, area: &[u8], item: Item)
     }
 }
 
-// "type, sub-attribute number, form, count" of an item.
-fn head_of(item: Item) -> [u8; 4]
-    requires { ⌜ Small item ⌝ }
-    ensures { λ r. ⌜ r ≡ headOf item ⌝ }
+// Lays "type, sub-attribute number, form, count" of an item.
+fn put_head(buf: &mut [u8], at: usize, item: Item)
+    requires { ⌜ Small item × (at + 4 ≤ length (now buf)) ⌝ }
+    ensures { λ _. ⌜ now (buf .exit) ≡ laidAt at (headOf item) (now (buf .entry)) ⌝ }
 {
     let n = item.number;
     let form = item.form;
     let count = item.count as u8;
     if n < 256 {
-        return [n as u8, 0, form, count];
+        put_four(buf, at, [n as u8, 0, form, count]);
+        return;
     }
-    [26, (n - 256) as u8, form, count]
+    put_four(buf, at, [26, (n - 256) as u8, form, count]);
 }
 
 // Lays an item, its stored octets and the head before them.
@@ -129,8 +140,7 @@ fn put_item(buf: &mut [u8], at: usize, area: &[u8], item: Item)
     ensures { λ _. ⌜ now (buf .exit) ≡ laidAt at (itemIn (now (area .entry)) item) (now (buf .entry)) ⌝ }
 {
     put_stored(buf, at + 4, area, item);
-    let head = head_of(item);
-    octets::copy_at(buf, at, &head);
+    put_head(buf, at, item);
 }
 
 // The octets of the items of an area that is well framed.

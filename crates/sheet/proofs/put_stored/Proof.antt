@@ -1,7 +1,7 @@
 -- `sheet::put_stored` meets its contract. Assumes nothing.
 use borrow.Author.Needs.{needs}
 use Rattle.octets.proofs.Overs.{laid-as}
-use Rattle.sheet.proofs.Laying.{number-stored, address-stored, digits-stored, part-stored, part-room}
+use Rattle.sheet.proofs.Laying.{number-stored, address-stored, digits-stored, part-stored, number-room, address-room, part-room}
 use Rattle.sheet.proofs.put_stored.Statement.{statement}
 use Rattle.sheet.proofs.put_stored.Tie as tie
 
@@ -9,7 +9,7 @@ enum-known-value : tie.Need-enum-known-value
 enum-known-value c = search needs
 
 put-number-requires : tie.Need-put-number-requires
-put-number-requires c κs = search needs
+put-number-requires c κs = number-room _ _ _ _ _ (c .before .before .value .given .1) (c .before .before .before .before .before .before .pre)
 
 same-length : tie.Need-same-length
 same-length c = search needs
@@ -23,17 +23,14 @@ enum-known-value-2 c = search needs
 u32-octets-requires : tie.Need-u32-octets-requires
 u32-octets-requires c κs = search needs
 
-slice-aggregate-copy-at : tie.Need-slice-aggregate-copy-at
-slice-aggregate-copy-at c = search needs
-
-copy-at-requires : tie.Need-copy-at-requires
-copy-at-requires c κs = search needs
+put-four-requires : tie.Need-put-four-requires
+put-four-requires c κs = address-room _ _ _ _ _ (c .before .before .before .value2 .given .1) (c .before .before .before .before .before .before .before .pre)
 
 same-length-2 : tie.Need-same-length-2
 same-length-2 c = search needs
 
 returns-2 : tie.Need-returns-2
-returns-2 c = laid-as _ _ _ _ _ (address-stored _ _ _ (c .before .before .before .before .before .before .before .value2 .given .1)) (rw (c .before .before .before .before .before .u32-octets .ensures) at (c .before .before .copy-at .ensures .holds))
+returns-2 c = laid-as _ _ _ _ _ (address-stored _ _ _ (c .before .before .before .before .before .before .value2 .given .1)) (rw (c .before .before .before .u32-octets .ensures) at (c .before .before .put-four .ensures))
 
 enum-told : tie.Need-enum-told
 enum-told c = search needs
@@ -72,8 +69,7 @@ put-stored-spec =
     returns
     enum-known-value-2
     u32-octets-requires
-    slice-aggregate-copy-at
-    copy-at-requires
+    put-four-requires
     same-length-2
     returns-2
     enum-told
