@@ -1,4 +1,3 @@
-pub mod Table
 pub mod Laying
 pub mod Rows
 pub mod Rules

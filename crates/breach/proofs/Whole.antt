@@ -21,9 +21,11 @@ use Rattle.area.specs.declared.Framing.{Framing}
 use Rattle.area.specs.declared.Framing.the-variants.{Whole, Broken}
 use Rattle.area.specs.Answers.{framingFrom, admittedOf}
 use Rattle.breach.specs.declared.Checking.the-variants as is
-use Rattle.breach.specs.Table.{Known, Row}
+use Rattle.presence.specs.Rows.{rowOf}
+use Rattle.breach.specs.Table.{Known}
 use Rattle.breach.specs.Lists.{Laid, Seen, lackingIn, wantingIn, Ready, Passed, Admitted}
 use Rattle.breach.specs.Answers.{Checked}
+use Rattle.breach.proofs.Rows.{row-known}
 use Rattle.breach.proofs.Laying.{laid-then, laid-kept, laid-over, chosen-append, chosen-few}
 use Rattle.breach.proofs.Ends.{lacking-six, end-meant}
 
@@ -50,19 +52,19 @@ pass-laid kind flags area codes seen y s d one two held first second said p q r 
 -- ---- Two passes
 
 module _ (kind flags : ℕ) (area : List ℕ) (a : Admitted kind flags area) where
-  pub admitted-known : Known kind
+  admitted-known : Known kind
   unfolding isKind
   admitted-known =
       let t = parts (leb 1 kind) (leb kind 6) (passes (isKind kind) (clear kind flags area (a .accepted) .kind-ok)) in
       record { least = leb→le 1 kind (t .0); most = leb→le kind 6 (t .1) }
 
-  pub admitted-ready : (codes : List ℕ) → Row kind codes → Ready kind area codes
-  admitted-ready codes row =
+  pub admitted-ready : (codes : List ℕ) → codes ≡ rowOf kind → Ready kind area codes
+  admitted-ready codes e =
       record {
         short = clear kind flags area (a .accepted) .short;
         sound = clear kind flags area (a .accepted) .sound;
         known = admitted-known;
-        row = row;
+        row = row-known kind codes admitted-known e;
       }
 
   -- the first pass has no room at all, so it changes nothing

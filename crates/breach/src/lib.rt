@@ -19,27 +19,10 @@ ghost use Rattle.breach.specs.Table.{Known, Row};
 ghost use Rattle.breach.specs.Lists.{Laid, Put, PutOf, searchEnd, Seen, brokenBy, lacksBy, wantsBy, lackingFirst, lackingThen, lackingIn, wantingFirst, wantingThen, wantingIn, Ready, Passed, Admitted};
 ghost use Rattle.breach.specs.Answers.{Checked};
 
-mod tables;
-
 // What checking answers: the number of entries that stand at the list's start, or a refusal.
 pub enum Checking {
     List(usize),
     Refused(Refusal),
-}
-
-// "a table of 1,536 entries, one for each kind and number": the row of a kind, read once a check, since each reading copies it.
-fn presence(kind: u32) -> [u8; 256]
-    requires { ⌜ Known kind ⌝ }
-    ensures { λ r. ⌜ Row kind r ⌝ }
-{
-    match kind {
-        1 => tables::PRESENCE[0],
-        2 => tables::PRESENCE[1],
-        3 => tables::PRESENCE[2],
-        4 => tables::PRESENCE[3],
-        5 => tables::PRESENCE[4],
-        _ => tables::PRESENCE[5],
-    }
 }
 
 // Rule 4 by an entry of the table.
@@ -431,7 +414,7 @@ fn lay(area: &[u8], kind: u32, flags: u32, list: &mut [u32]) -> Checking
     requires { ⌜ Admitted kind flags (now area) ⌝ }
     ensures { λ r. ⌜ Checked kind flags (now (area .entry)) (now (list .entry)) r (now (list .exit)) ⌝ }
 {
-    let row = presence(kind);
+    let row = presence::row_of(kind);
     let codes = &row[..];
     let needed = pass(area, codes, kind, flags, &mut list[..0]);
     if list.len() < needed {

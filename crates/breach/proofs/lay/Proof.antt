@@ -1,11 +1,11 @@
 -- `breach::lay` meets its contract. Assumes nothing.
 use borrow.Author.Needs.{needs}
-use Rattle.breach.proofs.Whole.{admitted-known, admitted-ready, too-long, list-empty, list-laid}
+use Rattle.breach.proofs.Whole.{admitted-ready, too-long, list-empty, list-laid}
 use Rattle.breach.proofs.lay.Statement.{statement}
 use Rattle.breach.proofs.lay.Tie as tie
 
-presence-requires : tie.Need-presence-requires
-presence-requires c κs = admitted-known _ _ _ (c .before .before .pre)
+row-of-requires : tie.Need-row-of-requires
+row-of-requires c κs = search needs
 
 slice-aggregate-codes : tie.Need-slice-aggregate-codes
 slice-aggregate-codes c = search needs
@@ -17,7 +17,7 @@ slice-aggregate-pass : tie.Need-slice-aggregate-pass
 slice-aggregate-pass c = search needs
 
 pass-requires : tie.Need-pass-requires
-pass-requires c κs = admitted-ready _ _ _ (c .before .before .before .before .before .pre) _ (c .before .before .presence .ensures)
+pass-requires c κs = admitted-ready _ _ _ (c .before .before .before .before .before .pre) _ (c .before .before .row-of .ensures)
 
 same-length : tie.Need-same-length
 same-length c = search needs
@@ -32,7 +32,7 @@ returns-2 : tie.Need-returns-2
 returns-2 c = list-empty _ _ _ (c .before .before .before .before .before .before .before .before .before .before .pre) _ _ _ (c .before .before .before .before .pass .ensures) (c .if2 .taken)
 
 pass-requires-2 : tie.Need-pass-requires-2
-pass-requires-2 c κs = admitted-ready _ _ _ (c .before .before .before .before .before .before .before .before .before .before .before .pre) _ (c .before .before .before .before .before .before .before .before .presence .ensures)
+pass-requires-2 c κs = admitted-ready _ _ _ (c .before .before .before .before .before .before .before .before .before .before .before .pre) _ (c .before .before .before .before .before .before .before .before .row-of .ensures)
 
 same-length-3 : tie.Need-same-length-3
 same-length-3 c = search needs
@@ -45,7 +45,7 @@ pub lay-spec : {M : Type 1} → statement M
 lay-spec =
     tie.close
     (tie.spec
-    presence-requires
+    row-of-requires
     slice-aggregate-codes
     slice-relend-prefix-pass
     slice-aggregate-pass

@@ -1,11 +1,12 @@
 -- The computed test: each of the 1,536 entries is the code of its kind and number, row by row. Assumes nothing.
 use borrow.Author.Needs.{needs}
-use mathlib.Core.Path.{refl}
 use native.Mathlib.Omega.{arith}
+use Rattle.meaning.specs.Jobs.{isKind}
 use Rattle.meaning.specs.Presence.{mandatory, code}
-use Rattle.breach.proofs.Rows.{row-of}
-use Rattle.breach.proofs.presence.Statement.{statement}
-use Rattle.breach.proofs.presence.Tie as tie
+use Rattle.presence.specs.Rows.{rowOf}
+use Rattle.presence.proofs.Rows.{no-kind}
+use Rattle.presence.proofs.row_of.Statement.{statement}
+use Rattle.presence.proofs.row_of.Tie as tie
 
 array-copy-out-result : tie.Need-array-copy-out-result
 array-copy-out-result c = search needs
@@ -26,33 +27,35 @@ array-copy-out-result-6 : tie.Need-array-copy-out-result-6
 array-copy-out-result-6 c = search needs
 
 returns : tie.Need-returns
-unfolding code mandatory
-returns c = row-of 1 _ _ (c .before .match .keys1) refl
+unfolding rowOf isKind code mandatory
+returns c = rw (c .before .match .keys1)
 
 returns-2 : tie.Need-returns-2
-unfolding code mandatory
-returns-2 c = row-of 2 _ _ (c .before .match .keys2) refl
+unfolding rowOf isKind code mandatory
+returns-2 c = rw (c .before .match .keys2)
 
 returns-3 : tie.Need-returns-3
-unfolding code mandatory
-returns-3 c = row-of 3 _ _ (c .before .match .keys3) refl
+unfolding rowOf isKind code mandatory
+returns-3 c = rw (c .before .match .keys3)
 
 returns-4 : tie.Need-returns-4
-unfolding code mandatory
-returns-4 c = row-of 4 _ _ (c .before .match .keys4) refl
+unfolding rowOf isKind code mandatory
+returns-4 c = rw (c .before .match .keys4)
 
 returns-5 : tie.Need-returns-5
-unfolding code mandatory
-returns-5 c = row-of 5 _ _ (c .before .match .keys5) refl
+unfolding rowOf isKind code mandatory
+returns-5 c = rw (c .before .match .keys5)
 
 returns-6 : tie.Need-returns-6
-unfolding code mandatory
-returns-6 c =
-    let p = c .before .before .pre in
-    row-of 6 _ _ (omega (arith, p .least, p .most, c .before .match .rest)) refl
+unfolding rowOf isKind code mandatory
+returns-6 c = rw (c .before .match .keys6)
 
-pub presence-spec : {M : Type 1} → statement M
-presence-spec =
+returns-7 : tie.Need-returns-7
+unfolding rowOf
+returns-7 c = rw (no-kind (c .before .args .kind) (λ l m. omega (arith, l, m, c .match .rest)))
+
+pub row-of-spec : {M : Type 1} → statement M
+row-of-spec =
     tie.close
     (tie.spec
     array-copy-out-result
@@ -66,4 +69,5 @@ presence-spec =
     returns-3
     returns-4
     returns-5
-    returns-6)
+    returns-6
+    returns-7)
