@@ -1,4 +1,4 @@
--- The computed test: each of the 1,536 entries is the code of its kind and number, row by row. Assumes nothing.
+-- The computed tests, one for each row: every entry is the code of its kind and number. Assumes nothing.
 use borrow.Author.Needs.{needs}
 use native.Mathlib.Omega.{arith}
 use Rattle.meaning.specs.Jobs.{isKind}
