@@ -6,10 +6,10 @@ use Prim.Native.Nat.{ℕ, _<_, _≤_, min}
 use native.Mathlib.Omega.{arith}
 use borrow.Author.Tests.{le-leb, lt-leb}
 use lib.Dec.{T}
-use lib.ListN.{length, take, replicate}
-use Rattle.meaning.specs.Octets.{between, all, isDigit, values, pack, packedLength}
+use lib.ListN.{length, replicate}
+use Rattle.meaning.specs.Octets.{between, all, isDigit, values, pack}
 use Rattle.meaning.specs.Answers.{over}
-use Rattle.meaning.proofs.Packing.{values-length, packed-values, values-halves, digits-hexes}
+use Rattle.meaning.proofs.Packing.{values-length, values-halves, digits-hexes}
 use Rattle.meaning.proofs.Tests.{passes, is-true}
 use Rattle.octets.specs.declared.Got.{Got}
 use Rattle.octets.specs.DigitStrings.{halves, padded, digitsOf, noDigits, gotOf, heldOf, packedOf}
@@ -68,14 +68,7 @@ module _ (l : List ℕ) (some : 1 ≤ length l) (few : length l ≤ 15) (t : T (
       let n : min (length (values l)) 15 ≡ length (values l) = omega (arith, values-length l) in
       rw (n, over-front (values l) (replicate 15 0)) (halves-modulo (values l) (values-halves l (digits-hexes l t)))
 
-  -- A digit string is packed in as many octets as its count asks for.
-  pub packed-as-many : packedOf (gotOf l .digits) .len ≡ packedLength (length l)
+  -- A digit string is packed in the octets that document 01 stores: "two to an octet, first in the high half; an odd last low half is 15".
+  pub packed-as-stored : packedOf (gotOf l .digits) ≡ pack (values l)
   unfolding packedOf digitsOf
-  packed-as-many = rw (got-digits l some few t) (ap packedLength (omega (arith, values-length l)))
-
-  -- And these are the octets that document 01 stores: "two to an octet, first in the high half; an odd last low half is 15".
-  pub packed-as-stored : take (packedLength (length l)) (packedOf (gotOf l .digits) .octets) ≡ pack (values l)
-  unfolding packedOf digitsOf padded
-  packed-as-stored =
-      let n : packedLength (length l) ≡ length (pack (values l)) = sym (packed-values l) in
-      rw (got-digits l some few t) (rw (held-values, n) (over-front (pack (values l)) (replicate 8 0)))
+  packed-as-stored = rw (got-digits l some few t) (ap pack held-values)

@@ -73,6 +73,23 @@ written-begun s d out i w =
       is = w .is ∙ sym (over-again t t d (omega arith)) ∙ ap (over t) (sym (w .is));
     }
 
+-- So do fewer of them: some may be written again.
+pub written-before : (s d out : List ℕ) (i j : ℕ) → Written s d out i → j ≤ i → Written s out out j
+unfolding over
+written-before s d out i j w h =
+    let t : List ℕ = take j s in
+    let rest : List ℕ = take (i - j) (drop j s) ++ drop (length (take i s)) d in
+    let n : length t ≡ j = length-take-le j s (omega (arith, w .within)) in
+    let size : i ≡ j + (i - j) = omega arith in
+    let parts : take i s ≡ t ++ take (i - j) (drop j s) = ap (λ (k : ℕ). take k s) size ∙ take-add j (i - j) s in
+    let held : out ≡ t ++ rest = w .is ∙ ap (λ (r : List ℕ). r ++ drop (length (take i s)) d) parts ∙ append-assoc t (take (i - j) (drop j s)) (drop (length (take i s)) d) in
+    record {
+      within = omega (arith, w .within);
+      room = omega (arith, w .room, w .kept);
+      kept = refl;
+      is = held ∙ ap (λ (r : List ℕ). t ++ r) (sym (ap (λ (o : List ℕ). drop (length t) o) held ∙ drop-at t rest (length t) refl));
+    }
+
 -- And the rest may be written by another.
 pub written-on : (s d out out′ : List ℕ) (i j : ℕ) → Written s d out i → Written s out out′ j → i ≤ j → Written s d out′ j
 written-on s d out out′ i j w v h =

@@ -9,7 +9,6 @@ use Rattle.meaning.specs.Octets.{between, all, same, isDigit, digitValue, value
 use Rattle.meaning.specs.Answers.{over}
 use Rattle.octets.specs.declared.Digits.{Digits}
 use Rattle.octets.specs.declared.Got.{Got}
-use Rattle.octets.specs.declared.Packed.{Packed}
 
 -- what the octets of a text stand for as digits, each taken modulo 16
 unfoldable pub halves : List ℕ → List ℕ
@@ -38,13 +37,9 @@ gotOf l =
 unfoldable pub heldOf : (n : ℕ) → List ℕ → List ℕ
 heldOf n l = map (λ x. x % 16) (take n l)
 
--- digits two to an octet, with zeros behind them; fifteen at most, whatever the count says
-unfoldable pub packedOf : Digits → Packed
-packedOf d =
-    record {
-      octets = padded 8 (pack (heldOf (min (d .len) 15) (d .octets)));
-      len = packedLength (min (d .len) 15);
-    }
+-- digits two to an octet; fifteen at most, whatever the count says
+unfoldable pub packedOf : Digits → List ℕ
+packedOf d = pack (heldOf (min (d .len) 15) (d .octets))
 
 -- the way back: octets are so many decimal digits, two to an octet, and nothing else
 unfoldable pub packedDigits : (count : ℕ) → List ℕ → Bool

@@ -8,7 +8,7 @@ ghost use lib.ListN.{length, getD};
 ghost use Rattle.meaning.specs.Octets.{all, numberOf, octetsOf, pack, unpack, packedLength, isDigit, isHex, digitValue, digitText, text};
 ghost use Rattle.meaning.specs.Answers.{over};
 ghost use Rattle.octets.specs.Parts.{partOf, Numbered, Written, laidAt, Laid};
-ghost use Rattle.octets.specs.DigitStrings.{halves, padded, heldOf, noDigits, gotOf, packedOf, packedDigits};
+ghost use Rattle.octets.specs.DigitStrings.{halves, heldOf, noDigits, gotOf, packedOf, packedDigits};
 
 // "at most fifteen digits together with their count": the digits' values, with zeros behind them.
 pub struct Digits {
@@ -20,12 +20,6 @@ pub struct Digits {
 pub struct Got {
     pub ok: bool,
     pub digits: Digits,
-}
-
-// Digits two to an octet, with zeros behind them.
-pub struct Packed {
-    pub octets: [u8; 8],
-    pub len: usize,
 }
 
 // An octet as a number.
@@ -188,34 +182,42 @@ fn copy_eight(buf: &mut [u8], src: &[u8], at: usize)
     lay_at(buf, at + 4, &second);
 }
 
-// Copies what is left of `src` from a place on, where the octets before it are copied.
-fn copy_rest(buf: &mut [u8], src: &[u8], at: usize)
-    requires { ⌜ Written (now src) (now buf) (now buf) at ⌝ }
+// Copies `src`, of less than eight octets, over the start of `buf`: the first four and the last four, which may be some of the
+// same, or one by one.
+fn copy_few(buf: &mut [u8], src: &[u8])
+    requires { ⌜ (length (now src) < 8) × (length (now src) ≤ length (now buf)) ⌝ }
     ensures { λ _. ⌜ now (buf .exit) ≡ over (now (src .entry)) (now (buf .entry)) ⌝ }
 {
-    let mut i = at;
-    if 4 <= src.len() - i {
-        let four = four_at(src, i);
-        lay_at(buf, i, &four);
-        i += 4;
+    if 4 <= src.len() {
+        let first = four_at(src, 0);
+        let last = four_at(src, src.len() - 4);
+        lay_at(buf, 0, &first);
+        lay_at(buf, src.len() - 4, &last);
+        return;
     }
+    let mut i: usize = 0;
     while i < src.len() {
         buf[i] = src[i];
         i += 1;
     }
 }
 
-// Copies `src` over the start of `buf`.
+// Copies `src` over the start of `buf`, by eights, the last of which may hold some that are copied already.
 fn copy(buf: &mut [u8], src: &[u8])
     requires { ⌜ length (now src) ≤ length (now buf) ⌝ }
     ensures { λ _. ⌜ now (buf .exit) ≡ over (now (src .entry)) (now (buf .entry)) ⌝ }
 {
+    if src.len() < 8 {
+        copy_few(buf, src);
+        return;
+    }
+    let last = src.len() - 8;
     let mut i: usize = 0;
-    while 8 <= src.len() - i {
+    while i < last {
         copy_eight(buf, src, i);
         i += 8;
     }
-    copy_rest(buf, src, i);
+    copy_eight(buf, src, last);
 }
 
 // Copies `src` over `buf` from the place `at` on and says true, if it fits; else changes nothing and says false.
@@ -280,18 +282,17 @@ pub fn all_digits(s: &[u8]) -> bool
     true
 }
 
-// Whether every octet of `s` is a hexadecimal digit.
+// Whether every octet of `s` is a hexadecimal digit. All are tested, so that many can be tested at once.
 pub fn all_hex(s: &[u8]) -> bool
     ensures { λ r. ⌜ r ≡ all isHex (now (s .entry)) ⌝ }
 {
     let mut i: usize = 0;
+    let mut ok = true;
     while i < s.len() {
-        if !is_hex(s[i]) {
-            return false;
-        }
+        ok = ok & is_hex(s[i]);
         i += 1;
     }
-    true
+    ok
 }
 
 // What is got of a text that is no digit string.
@@ -355,34 +356,41 @@ pub fn least(a: usize, b: usize) -> usize
     if a < b { a } else { b }
 }
 
-// The first `count` digits two to an octet; "an odd last low half is 15".
-fn pack_digits(octets: [u8; 15], count: usize) -> [u8; 8]
-    requires { ⌜ count ≤ 15 ⌝ }
-    ensures { λ r. ⌜ r ≡ padded 8 (pack (heldOf count octets)) ⌝ }
+// Lays the first `count` digits two to an octet over the start of `buf`; "an odd last low half is 15".
+fn lay_digits(buf: &mut [u8], octets: [u8; 15], count: usize)
+    requires { ⌜ (count ≤ 15) × (packedLength count ≤ length (now buf)) ⌝ }
+    ensures { λ _. ⌜ now (buf .exit) ≡ over (pack (heldOf count octets)) (now (buf .entry)) ⌝ }
 {
     let pairs = count / 2;
-    let mut out = [0u8; 8];
     let mut i: usize = 0;
     while i < pairs {
-        out[i] = pair(octets[2 * i] % 16, octets[2 * i + 1] % 16);
+        buf[i] = pair(octets[2 * i] % 16, octets[2 * i + 1] % 16);
         i += 1;
     }
     if 2 * i < count {
-        out[i] = pair(octets[2 * i] % 16, 15);
+        buf[i] = pair(octets[2 * i] % 16, 15);
     }
-    out
 }
 
-// The digits two to an octet, of fifteen at most, each modulo 16.
-pub fn packed_of(d: Digits) -> Packed
-    ensures { λ r. ⌜ r ≡ packedOf d ⌝ }
+// Writes the first `count` digits two to an octet over `buf` from the place `at` on and says true, if they fit; else changes
+// nothing and says false.
+fn put_digits(buf: &mut [u8], at: usize, octets: [u8; 15], count: usize) -> bool
+    requires { ⌜ count ≤ 15 ⌝ }
+    ensures { λ r. ⌜ Laid at (pack (heldOf count octets)) (now (buf .entry)) r (now (buf .exit)) ⌝ }
+{
+    if !fits(buf.len(), at, packed_len(count)) {
+        return false;
+    }
+    lay_digits(&mut buf[at..], octets, count);
+    true
+}
+
+// The same of digits that stand together with their count; fifteen at most, each modulo 16.
+pub fn digits_at(buf: &mut [u8], at: usize, d: Digits) -> bool
+    ensures { λ r. ⌜ Laid at (packedOf d) (now (buf .entry)) r (now (buf .exit)) ⌝ }
 {
     let octets = d.octets;
-    let n = least(d.len, 15);
-    Packed {
-        octets: pack_digits(octets, n),
-        len: packed_len(n),
-    }
+    put_digits(buf, at, octets, least(d.len, 15))
 }
 
 // The octet at `i` of the packed halves of a text, where the text has both of them.

@@ -5,7 +5,7 @@ use mathlib.Core.List.{List, [], _∷_}
 use Prim.Native.Nat.{ℕ, zero, suc, _+_, _*_, _%_, _<_}
 use native.Mathlib.Nat.{mod-eq-of-lt}
 use native.Mathlib.Omega.{arith}
-use lib.ListN.{length, take, drop, getD}
+use lib.ListN.{length, drop, getD}
 use Rattle.meaning.specs.Octets.{Octets, numberOf, octetsOf, digitValue, values, pack}
 use Rattle.meaning.specs.Shapes.{shapeOf}
 use Rattle.meaning.specs.Sheet.{typeOf, subOf, form, count, stored, item, storedLength}
@@ -16,7 +16,7 @@ use Rattle.octets.specs.Parts.{partOf}
 use Rattle.octets.specs.DigitStrings.{halves, digitsOf, gotOf, packedOf}
 use Rattle.octets.proofs.Parts.{part-octets}
 use Rattle.octets.proofs.Halves.{halves-as-stored}
-use Rattle.octets.proofs.DigitStrings.{got-digits, packed-as-many, packed-as-stored}
+use Rattle.octets.proofs.DigitStrings.{got-digits, packed-as-stored}
 use Rattle.area.specs.declared.Part.{Part}
 use Rattle.shape.specs.Codes.{codeOf}
 use Rattle.shape.specs.Items.{valueBy, digitsBy, itemFor, itemAt, storedPart, storedValue, storedIn}
@@ -38,11 +38,10 @@ module _ (v s : List ℕ) where
   four-stored : Octets v → Four v s → octetsOf 4 (numberOf v) ≡ s
   four-stored o w = rw (w .long) at (octets-back v o) ∙ sym (w .kept)
 
-  digits-stored : Digital v s → take (packedOf (digitsOf (values v)) .len) (packedOf (digitsOf (values v)) .octets) ≡ s
+  digits-stored : Digital v s → packedOf (digitsOf (values v)) ≡ s
   digits-stored w =
       let e : gotOf v .digits ≡ digitsOf (values v) = rw (got-digits v (w .some) (w .few) (w .decimal)) in
-      let n = packed-as-many v (w .some) (w .few) (w .decimal) in
-      rw (← e, n) (packed-as-stored v (w .some) (w .few) (w .decimal)) ∙ sym (w .packed)
+      rw (← e) (packed-as-stored v (w .some) (w .few) (w .decimal)) ∙ sym (w .packed)
 
   profile-stored : Octets s → Profile v s → ((digitValue (getD v 0 0) * 10 + digitValue (getD v 1 0)) % 256) ∷ pack (halves (drop 3 v)) ≡ s
   profile-stored o w =

@@ -4,7 +4,7 @@ use Prim.Native.Nat.{ℕ, _+_, _*_, _%_}
 use mathlib.Core.Bool.{cond}
 use mathlib.Core.List.{List, [], _∷_}
 use lib.Dec.{eqb}
-use lib.ListN.{take, drop, getD}
+use lib.ListN.{drop, getD}
 use Rattle.meaning.specs.Octets.{numberOf, octetsOf, pack, digitValue, values}
 use Rattle.meaning.specs.Framing.{isPlain}
 use Rattle.meaning.specs.Sheet.{form, count, stored}
@@ -61,7 +61,7 @@ storedPart f v =
 unfoldable pub storedValue : (area : List ℕ) (form : ℕ) → Value → Digits → List ℕ
 storedValue area f (is.Number n) d = cond (eqb f 7) ((n % 256) ∷ []) (octetsOf 4 n)
 storedValue area f (is.Address n) d = octetsOf 4 n
-storedValue area f is.Digits d = take (packedOf d .len) (packedOf d .octets)
+storedValue area f is.Digits d = packedOf d
 storedValue area f (is.Plain p) d = storedPart f (partOf area (p .start) (p .len))
 
 -- the octets that an item stores, taken from the item and the area that it speaks of

@@ -14,7 +14,6 @@ use Rattle.meaning.specs.Answers.{over}
 use Rattle.octets.specs.Parts.{partOf, laidAt}
 use Rattle.octets.specs.DigitStrings.{halves, packedOf}
 use Rattle.octets.specs.declared.Digits.{Digits}
-use Rattle.octets.specs.declared.Packed.{Packed}
 use Rattle.octets.proofs.Overs.{Begun, begun-none, begun-more, begun-all, laid-two, laid-fits, laid-length, laid-keeps}
 use Rattle.octets.proofs.Halves.{halves-packed}
 use Rattle.area.specs.declared.Part.{Part}
@@ -57,11 +56,6 @@ qos-room f at room v d e h =
     omega arith
 
 -- ---- What the writers lay
-
--- the digits of an item, out of their packed octets
-pub digits-laid : (d : Digits) (packed : Packed) (part : List ℕ) (at : ℕ) (buf out : List ℕ) → packed ≡ packedOf d → part ≡ partOf (packed .octets) 0 (packed .len) → out ≡ laidAt at part buf → out ≡ laidAt at (take (packedOf d .len) (packedOf d .octets)) buf
-unfolding partOf
-digits-laid d packed part at buf out p q h = h ∙ rw (q, p)
 
 -- the release octet and then the packed digits
 pub qos-laid : (v digits : List ℕ) (release at : ℕ) (buf first out : List ℕ) → release ≡ (digitValue (getD v 0 0) * 10 + digitValue (getD v 1 0)) % 256 → digits ≡ partOf v 3 (length v) → at + (1 + packedLength (length v - 3)) ≤ length buf → first ≡ laidAt at (release ∷ []) buf → out ≡ laidAt (at + 1) (pack (halves digits)) first → out ≡ laidAt at (((digitValue (getD v 0 0) * 10 + digitValue (getD v 1 0)) % 256) ∷ pack (halves (drop 3 v))) buf
@@ -110,7 +104,7 @@ module _ (area : List ℕ) (i : Item) where
   unfolding storedIn storedValue
   address-stored n e = rw e
 
-  pub digits-stored : i .value ≡ is.Digits → storedIn area i ≡ take (packedOf (i .digits) .len) (packedOf (i .digits) .octets)
+  pub digits-stored : i .value ≡ is.Digits → storedIn area i ≡ packedOf (i .digits)
   unfolding storedIn storedValue
   digits-stored e = rw e
 

@@ -9,10 +9,10 @@ ghost use mathlib.Core.Bool.{cond};
 ghost use mathlib.Core.List.{[], _∷_};
 ghost use Prim.Native.Nat.{_+_, _-_, _*_, _%_, _≤_, _<_};
 ghost use lib.Dec.{eqb};
-ghost use lib.ListN.{length, take, drop, getD};
+ghost use lib.ListN.{length, drop, getD};
 ghost use Rattle.meaning.specs.Octets.{octetsOf, pack, packedLength, digitValue};
 ghost use Rattle.octets.specs.Parts.{laidAt};
-ghost use Rattle.octets.specs.DigitStrings.{halves, packedOf};
+ghost use Rattle.octets.specs.DigitStrings.{halves};
 ghost use Rattle.shape.specs.Items.{storedPart, storedIn};
 ghost use Rattle.sheet.specs.Items.{headOf, itemIn, Small, sheetHead, itemsIn, Sound, Passed, Admitted};
 ghost use Rattle.sheet.specs.Answers.{Read};
@@ -54,15 +54,6 @@ fn put_number(buf: &mut [u8], at: usize, form: u8, n: u32)
         return;
     }
     put_four(buf, at, octets::u32_octets(n));
-}
-
-// Lays digits, two to an octet.
-fn put_digits(buf: &mut [u8], at: usize, d: octets::Digits)
-    ensures { λ _. ⌜ now (buf .exit) ≡ laidAt at (take (packedOf d .len) (packedOf d .octets)) (now (buf .entry)) ⌝ }
-{
-    let packed = octets::packed_of(d);
-    let halves = packed.octets;
-    octets::copy_at(buf, at, octets::part(&halves, 0, packed.len));
 }
 
 // Lays a QoS profile: the release octet, then its hexadecimal digits two to an octet.
@@ -109,7 +100,7 @@ fn put_stored(buf: &mut [u8], at: usize, area: &[u8], item: Item)
         }
         Value::Digits => {
             let digits = item.digits;
-            put_digits(buf, at, digits);
+            octets::digits_at(buf, at, digits);
             return;
         }
         Value::Plain(p) => {

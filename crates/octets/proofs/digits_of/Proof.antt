@@ -1,6 +1,7 @@
 -- The octets passed are digits, and their values are written; one that is none decides. Assumes nothing.
 use borrow.Author.Needs.{needs}
-use mathlib.Core.Path.{sym, _∙_}
+use mathlib.Core.Path.{refl, sym, _∙_}
+use mathlib.Core.Bool.{true}
 use Prim.Native.Nat.{_-_}
 use borrow.Author.Tests.{not-true, not-false}
 use native.Mathlib.Omega.{arith}
@@ -9,14 +10,14 @@ use Rattle.meaning.specs.Octets.{isDigit}
 use Rattle.octets.specs.Parts.{Written}
 use Rattle.octets.specs.DigitStrings.{halves}
 use Rattle.octets.proofs.Overs.{written-none, written-more}
-use Rattle.octets.proofs.EachOne.{Passed, passed-none, passed-more, passed-not, passed-all}
+use Rattle.octets.proofs.EachOne.{Tested, tested-none, tested-more, tested-not, tested-all}
 use Rattle.octets.proofs.Halves.{halves-length, halves-at}
 use Rattle.octets.proofs.DigitStrings.{got-short, got-long, got-other, got-written}
 use Rattle.octets.proofs.digits_of.Statement.{statement}
 use Rattle.octets.proofs.digits_of.Tie as tie
 
 abbrev Inv-loop : tie.InvT-loop
-Inv-loop text octets₀ i₀ octets i = Passed isDigit text i × Written (halves text) (replicate 15 0) octets i
+Inv-loop text octets₀ i₀ octets i = Tested isDigit text i true × Written (halves text) (replicate 15 0) octets i
 
 abbrev μ-loop : tie.MeasureT-loop
 μ-loop text octets₀ i₀ octets i = length text - i
@@ -34,7 +35,7 @@ returns-2 : tie.Need-returns-2 Inv-loop μ-loop
 returns-2 c = c .none2 .ensures ∙ sym (got-long _ (omega arith))
 
 loop-holds : tie.Need-loop-holds Inv-loop μ-loop
-loop-holds c = (passed-none isDigit _, written-none _ _ (omega (arith, halves-length (c .before .before .before .args .text .now))))
+loop-holds c = (tested-none isDigit _, written-none _ _ (omega (arith, halves-length (c .before .before .before .args .text .now))))
 
 shared-slice-read-x : tie.Need-shared-slice-read-x Inv-loop μ-loop
 shared-slice-read-x c = search needs
@@ -48,7 +49,7 @@ none-requires-3 c κs = search needs
 returns-3 : tie.Need-returns-3 Inv-loop μ-loop
 returns-3 c =
     let u = c .before .before .before .before .before .loop in
-    c .none3 .ensures ∙ sym (got-other _ (sym (passed-not isDigit _ _ (u .inv .0) (omega arith) (sym (c .before .before .is-digit .ensures) ∙ not-true _ (c .before .if3 .taken)))))
+    c .none3 .ensures ∙ sym (got-other _ (sym (tested-not isDigit _ _ true (u .inv .0) refl (omega arith) (sym (c .before .before .is-digit .ensures) ∙ not-true _ (c .before .if3 .taken)))))
 
 half-of-requires : tie.Need-half-of-requires Inv-loop μ-loop
 half-of-requires c κs = search needs
@@ -66,12 +67,12 @@ loop-again : tie.Need-loop-again Inv-loop μ-loop
 loop-again c =
     let u = c .before .before .before .before .before .loop in
     let text = c .before .before .before .before .before .before .before .before .before .args .text .now in (
-      passed-more isDigit _ _ (u .inv .0) (omega arith) (sym (c .before .before .is-digit .ensures) ∙ not-false _ (c .before .if3 .left)),
+      tested-more isDigit _ _ true (u .inv .0) true (omega arith) (sym (not-false _ (c .before .if3 .left)) ∙ c .before .before .is-digit .ensures),
       written-more _ _ _ _ _ (u .inv .1) (omega (arith, halves-length text)) (c .half-of .ensures ∙ sym (halves-at text (u .i) 0 (omega arith))),
     )
 
 returns-4 : tie.Need-returns-4 Inv-loop μ-loop
-returns-4 c = let u = c .before .loop in got-written _ _ _ (u .inv .1) (omega arith) (omega arith) (sym (passed-all isDigit _ _ (u .inv .0) (omega arith))) (omega arith)
+returns-4 c = let u = c .before .loop in got-written _ _ _ (u .inv .1) (omega arith) (omega arith) (sym (tested-all isDigit _ _ true (u .inv .0) (omega arith))) (omega arith)
 
 pub digits-of-spec : {M : Type 1} → statement M
 digits-of-spec =

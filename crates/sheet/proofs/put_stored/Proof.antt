@@ -35,14 +35,14 @@ returns-2 c = laid-as _ _ _ _ _ (address-stored _ _ _ (c .before .before .before
 enum-told : tie.Need-enum-told
 enum-told c = search needs
 
-put-digits-requires : tie.Need-put-digits-requires
-put-digits-requires c κs = search needs
+digits-at-requires : tie.Need-digits-at-requires
+digits-at-requires c κs = search needs
 
 same-length-3 : tie.Need-same-length-3
 same-length-3 c = search needs
 
 returns-3 : tie.Need-returns-3
-returns-3 c = laid-as _ _ _ _ _ (digits-stored _ _ (c .before .before .before .before .before .enum-told .given .1)) (c .before .before .put-digits .ensures)
+returns-3 c = laid-as _ _ _ _ _ (digits-stored _ _ (c .before .before .before .before .before .enum-told .given .1)) (c .before .before .digits-at .ensures .holds)
 
 enum-known-value-3 : tie.Need-enum-known-value-3
 enum-known-value-3 c = search needs
@@ -73,7 +73,7 @@ put-stored-spec =
     same-length-2
     returns-2
     enum-told
-    put-digits-requires
+    digits-at-requires
     same-length-3
     returns-3
     enum-known-value-3

@@ -2,23 +2,22 @@
 use borrow.Author.Needs.{needs}
 use Prim.Native.Nat.{_-_, _≤_}
 use native.Mathlib.Omega.{arith}
-use lib.ListN.{replicate}
 use Rattle.meaning.specs.Octets.{pack}
 use Rattle.octets.specs.Parts.{Written}
-use Rattle.octets.specs.DigitStrings.{padded, heldOf}
+use Rattle.octets.specs.DigitStrings.{heldOf}
 use Rattle.octets.proofs.Overs.{written-none, written-all}
 use Rattle.octets.proofs.Halves.{held-packed, two-held, one-held}
-use Rattle.octets.proofs.pack_digits.Statement.{statement}
-use Rattle.octets.proofs.pack_digits.Tie as tie
+use Rattle.octets.proofs.lay_digits.Statement.{statement}
+use Rattle.octets.proofs.lay_digits.Tie as tie
 
 abbrev Inv-loop : tie.InvT-loop
-Inv-loop count octets pairs out₀ i₀ out i = Written (pack (heldOf count octets)) (replicate 8 0) out i × (i ≤ pairs)
+Inv-loop buf₀ count octets pairs i₀ buf i = Written (pack (heldOf count octets)) buf₀ buf i × (i ≤ pairs)
 
 abbrev μ-loop : tie.MeasureT-loop
-μ-loop count octets pairs out₀ i₀ out i = pairs - i
+μ-loop buf₀ count octets pairs i₀ buf i = pairs - i
 
 loop-holds : tie.Need-loop-holds Inv-loop μ-loop
-loop-holds c = let a = c .args in (written-none _ _ (omega (arith, held-packed (a .count) (a .t1) (omega arith))), omega arith)
+loop-holds c = let a = c .before .args in (written-none _ _ (omega (arith, held-packed (a .count) (a .t2) (omega arith))), omega arith)
 
 mul-pair : tie.Need-mul-pair Inv-loop μ-loop
 mul-pair c = search needs
@@ -38,8 +37,8 @@ array-read-pair-2 c = search needs
 pair-requires : tie.Need-pair-requires Inv-loop μ-loop
 pair-requires c κs = search needs
 
-array-write-out : tie.Need-array-write-out Inv-loop μ-loop
-array-write-out c = search needs
+slice-write-buf : tie.Need-slice-write-buf Inv-loop μ-loop
+slice-write-buf c = search needs
 
 add-i : tie.Need-add-i Inv-loop μ-loop
 add-i c = search needs
@@ -48,7 +47,7 @@ loop-less : tie.Need-loop-less Inv-loop μ-loop
 loop-less c = search needs
 
 loop-again : tie.Need-loop-again Inv-loop μ-loop
-loop-again c = let a = c .before .before .before .args in (two-held (a .count) (a .t1) (omega arith) _ _ _ _ (c .before .before .loop .inv .0) (omega arith) (c .pair .ensures), omega arith)
+loop-again c = let a = c .before .before .before .before .args in (two-held (a .count) (a .t2) (omega arith) _ _ _ _ (c .before .before .loop .inv .0) (omega arith) (c .pair .ensures), omega arith)
 
 mul-if1 : tie.Need-mul-if1 Inv-loop μ-loop
 mul-if1 c = search needs
@@ -62,19 +61,23 @@ array-read-pair-3 c = search needs
 pair-requires-2 : tie.Need-pair-requires-2 Inv-loop μ-loop
 pair-requires-2 c κs = search needs
 
-array-write-out-2 : tie.Need-array-write-out-2 Inv-loop μ-loop
-array-write-out-2 c = search needs
+slice-write-buf-2 : tie.Need-slice-write-buf-2 Inv-loop μ-loop
+slice-write-buf-2 c = search needs
+
+same-length : tie.Need-same-length Inv-loop μ-loop
+same-length c = search needs
 
 returns : tie.Need-returns Inv-loop μ-loop
-unfolding padded
-returns c = let a = c .before .before .before .before .args in written-all _ _ _ _ (one-held (a .count) (a .t1) (omega arith) _ _ _ _ (c .before .before .before .loop .inv .0) (omega arith) (omega arith) (c .pair2 .ensures)) (omega (arith, held-packed (a .count) (a .t1) (omega arith)))
+returns c = let a = c .before .before .before .before .before .args in written-all _ _ _ _ (one-held (a .count) (a .t2) (omega arith) _ _ _ _ (c .before .before .before .loop .inv .0) (omega arith) (omega arith) (c .pair2 .ensures)) (omega (arith, held-packed (a .count) (a .t2) (omega arith)))
+
+same-length-2 : tie.Need-same-length-2 Inv-loop μ-loop
+same-length-2 c = search needs
 
 returns-2 : tie.Need-returns-2 Inv-loop μ-loop
-unfolding padded
-returns-2 c = let a = c .before .before .before .args in written-all _ _ _ _ (c .before .before .loop .inv .0) (omega (arith, held-packed (a .count) (a .t1) (omega arith)))
+returns-2 c = let a = c .before .before .before .before .args in written-all _ _ _ _ (c .before .before .loop .inv .0) (omega (arith, held-packed (a .count) (a .t2) (omega arith)))
 
-pub pack-digits-spec : {M : Type 1} → statement M
-pack-digits-spec =
+pub lay-digits-spec : {M : Type 1} → statement M
+lay-digits-spec =
     tie.close
     (tie.spec
     Inv-loop
@@ -86,7 +89,7 @@ pack-digits-spec =
     add-pair
     array-read-pair-2
     pair-requires
-    array-write-out
+    slice-write-buf
     add-i
     loop-less
     loop-again
@@ -94,6 +97,8 @@ pack-digits-spec =
     mul-pair-3
     array-read-pair-3
     pair-requires-2
-    array-write-out-2
+    slice-write-buf-2
+    same-length
     returns
+    same-length-2
     returns-2)
