@@ -5,7 +5,7 @@ ghost use lib.ListN.{length, drop};
 ghost use Rattle.meaning.specs.Jobs.{isKind, areFlags};
 ghost use Rattle.meaning.specs.Framing.{vendorFound, foundAt, walk};
 ghost use Rattle.meaning.specs.Framing as meant;
-ghost use Rattle.area.specs.Answers.{stepOf, framingOf, headLength, numberAt, carriedAt, admittedOf};
+ghost use Rattle.area.specs.Answers.{stepOf, framingOf, headLength, numberAt, carriedAt, arrivalOf, admittedOf};
 
 // A refusal of the book: its number and its second number.
 pub struct Refusal {
@@ -42,6 +42,12 @@ pub struct Carried {
 pub enum Framing {
     Whole(usize),
     Broken(Refusal),
+}
+
+// Whether an area comes with a kind, flags and a length that are allowed.
+pub enum Arrival {
+    Fit,
+    Refused(Refusal),
 }
 
 // The number that a plain attribute of type t carries.
@@ -233,27 +239,41 @@ pub fn are_flags(flags: u32) -> bool
     (flags == 0) | ((flags == 1) | ((flags == 2) | ((flags == 4) | ((flags == 5) | (flags == 6)))))
 }
 
-// The framing of an area that comes with kind and flags: the first of refusals 1 to 8 that applies, or how many attributes it has.
-pub fn admit(area: &[u8], kind: u32, flags: u32) -> Framing
-    ensures { λ r. ⌜ r ≡ admittedOf kind flags (now (area .entry)) ⌝ }
+// Whether what comes with an area is fit: the first of refusals 1 to 3 that applies, or none.
+pub fn arrive(area: &[u8], kind: u32, flags: u32) -> Arrival
+    ensures { λ r. ⌜ r ≡ arrivalOf kind flags (length (now (area .entry))) ⌝ }
 {
     if !is_kind(kind) {
-        return Framing::Broken(Refusal {
+        return Arrival::Refused(Refusal {
             number: 1,
             second: 0,
         });
     }
     if !are_flags(flags) {
-        return Framing::Broken(Refusal {
+        return Arrival::Refused(Refusal {
             number: 2,
             second: 0,
         });
     }
     if 4076 < area.len() {
-        return Framing::Broken(Refusal {
+        return Arrival::Refused(Refusal {
             number: 3,
             second: area.len(),
         });
     }
-    survey(area)
+    Arrival::Fit
+}
+
+// The framing of an area that comes with kind and flags: the first of refusals 1 to 8 that applies, or how many attributes it has.
+pub fn admit(area: &[u8], kind: u32, flags: u32) -> Framing
+    ensures { λ r. ⌜ r ≡ admittedOf kind flags (now (area .entry)) ⌝ }
+{
+    match arrive(area, kind, flags) {
+        Arrival::Refused(refusal) => {
+            return Framing::Broken(refusal);
+        }
+        Arrival::Fit => {
+            return survey(area);
+        }
+    }
 }

@@ -1,49 +1,38 @@
 -- `area::admit` meets its contract. Assumes nothing.
 use borrow.Author.Needs.{needs}
-use borrow.Author.Tests.{not-true, not-false}
-use mathlib.Core.Path.{sym, _∙_}
-use Rattle.area.proofs.Admitted.{bad-kind, bad-flags, too-long, framed}
+use mathlib.Core.Path.{_∙_}
+use Rattle.area.proofs.Admitted.{fit-arrived, refused-first, arrival-refused, arrival-framed}
 use Rattle.area.proofs.admit.Statement.{statement}
 use Rattle.area.proofs.admit.Tie as tie
 
-is-kind-requires : tie.Need-is-kind-requires
-is-kind-requires c κs = search needs
+arrive-requires : tie.Need-arrive-requires
+arrive-requires c κs = search needs
+
+enum-known-refusal : tie.Need-enum-known-refusal
+enum-known-refusal c = search needs
 
 returns : tie.Need-returns
-returns c = bad-kind _ _ _ (sym (c .before .is-kind .ensures) ∙ not-true _ (c .if1 .taken))
+returns c =
+    arrival-refused _ _ _ _ (refused-first _ _ _ _ (c .before .before .before .arrive .ensures) _ (c .before .refusal .given .1))
 
-are-flags-requires : tie.Need-are-flags-requires
-are-flags-requires c κs = search needs
-
-returns-2 : tie.Need-returns-2
-returns-2 c =
-    bad-flags _ _ _ (sym (c .before .before .before .is-kind .ensures) ∙ not-false _ (c .before .before .if1 .left))
-    (sym (c .before .are-flags .ensures) ∙ not-true _ (c .if2 .taken))
-
-returns-3 : tie.Need-returns-3
-returns-3 c =
-    too-long _ _ _ (sym (c .before .before .before .before .is-kind .ensures) ∙ not-false _ (c .before .before .before .if1 .left))
-    (sym (c .before .before .are-flags .ensures) ∙ not-false _ (c .before .if2 .left))
-    (c .if3 .taken)
+enum-told : tie.Need-enum-told
+enum-told c = search needs
 
 survey-requires : tie.Need-survey-requires
 survey-requires c κs = search needs
 
-returns-4 : tie.Need-returns-4
-returns-4 c =
+returns-2 : tie.Need-returns-2
+returns-2 c =
     c .survey .ensures
-    ∙ framed _ _ _ (sym (c .before .before .before .before .before .is-kind .ensures) ∙ not-false _ (c .before .before .before .before .if1 .left))
-    (sym (c .before .before .before .are-flags .ensures) ∙ not-false _ (c .before .before .if2 .left))
-    (c .before .if3 .left)
+    ∙ arrival-framed _ _ _ (fit-arrived _ _ _ _ (c .before .before .before .arrive .ensures) (c .before .enum-told .given .1))
 
 pub admit-spec : {M : Type 1} → statement M
 admit-spec =
     tie.close
     (tie.spec
-    is-kind-requires
+    arrive-requires
+    enum-known-refusal
     returns
-    are-flags-requires
-    returns-2
-    returns-3
+    enum-told
     survey-requires
-    returns-4)
+    returns-2)
