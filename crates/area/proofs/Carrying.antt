@@ -1,4 +1,5 @@
--- For a caller of `carried_at`: in an area without a fault it tells what the walk meets at the place. Assumes nothing.
+-- For a caller of `carried_at`: in an area without a fault it tells what the walk meets at the place, and wherever `step_at` finds an
+-- attribute it tells that one. Assumes nothing.
 use mathlib.Core.Path.{_≡_, refl, sym, ap, subst, _∙_}
 use mathlib.Core.Bool.{Bool, true, false, cond, _&&_}
 use mathlib.Core.List.{List, [], _∷_}
@@ -18,6 +19,8 @@ use Rattle.octets.specs.Parts.{partOf}
 use Rattle.area.specs.Answers.{stepOf, headLength, numberAt, carriedAs, carriedAt}
 use Rattle.area.specs.declared.Carried.{Carried}
 use Rattle.area.specs.declared.Part.{Part}
+use Rattle.area.specs.declared.Step.{Step}
+use Rattle.area.specs.declared.Step.the-variants as step
 use Rattle.area.proofs.Steps.{Stands, step-attribute}
 
 -- ---- One law for each answer
@@ -133,6 +136,23 @@ module _ (l : List ℕ) (place : ℕ) (o : Octets l) where
       go nothing p =
           let e : drop place l ≡ [] = subst (FoundIn (drop place l)) p (found-in (drop place l) (octets-drop place l o)) in
           absurd (omega (arith, ap length e, length-drop place l))
+
+  -- An attribute that is the answer of `step_at` is the one that is told.
+  pub step-carried : (r : Step) → r ≡ stepOf place (foundAt l place) → (number : ℕ) (value : Part) (behind : ℕ) → r ≡ step.Attribute number value behind → record { number = number; value = value; next = behind } ≡ carriedAt l place
+  step-carried r says number value behind q = go (foundAt l place) refl (sym q ∙ says)
+    where
+      stands : Stands l place number value behind
+      stands = step-attribute l place r says number value behind q
+
+      go : (f : Found) → foundAt l place ≡ f → step.Attribute number value behind ≡ stepOf place f → record { number = number; value = value; next = behind } ≡ carriedAt l place
+      go (attribute n h s) p e =
+          let here = found-carried (omega (arith, stands .onwards, stands .inside)) n h s p in
+          let en : n ≡ number = cc in
+          let ev : record { start = place + h; len = s - h } ≡ value = cc in
+          let eb : place + s ≡ behind = cc in
+          sym (here ∙ rw (en, ev, eb))
+      go (refused k) p e = absurd (let z : _≡_ {A = ℕ} 0 1 = cc in omega arith)
+      go nothing p e = absurd (let z : _≡_ {A = ℕ} 0 1 = cc in omega arith)
 
 -- no fault behind an attribute where there is none from it on
 pub sound-behind : (l : List ℕ) (place number : ℕ) (value : Part) (behind : ℕ) → Stands l place number value behind → fault (walkAt l place) ≡ none → fault (walkAt l behind) ≡ none

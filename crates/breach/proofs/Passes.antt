@@ -9,18 +9,17 @@ use lib.ListN.{length, take, drop, getD, set, replicate, length-set, length-repl
 use lib.Seq.{getD-set-same, getD-set-other}
 use borrow.Author.Tests.{eqb-true, eqb-false}
 use Rattle.meaning.specs.Octets.{isIn}
-use Rattle.meaning.specs.Framing.{Walk, walk, walkAt, attributes}
-use Rattle.meaning.specs.Refusals.{none, fault}
+use Rattle.meaning.specs.Framing.{Walk, end, broken, walk, walkAt, attributes}
+use Rattle.meaning.specs.Refusals.{fault}
 use Rattle.meaning.specs.Shapes.{shapeOf, meets, allowed}
 use Rattle.meaning.specs.Breaches.{entry, barred, onceOnly, misses, offends, chosen, atAttribute, along, numbersOf}
-use Rattle.meaning.proofs.Walks.{walk-past}
+use Rattle.area.specs.declared.Refusal.{Refusal}
 use Rattle.area.specs.declared.Part.{Part}
-use Rattle.area.specs.declared.Carried.{Carried}
 use Rattle.area.specs.Answers.{carriedAt}
 use Rattle.area.proofs.Steps.{Stands, attributeIn}
-use Rattle.area.proofs.Carrying.{sound-behind}
-use Rattle.breach.specs.Lists.{Laid, Put, Seen, brokenBy, Passed}
-use Rattle.breach.proofs.Laying.{put-of, laid-none, laid-then, chosen-none, chosen-then, chosen-append, chosen-few}
+use Rattle.breach.specs.declared.Tally.the-variants.{Whole, Broken}
+use Rattle.breach.specs.Lists.{Laid, Put, Seen, brokenBy, AlongSays}
+use Rattle.breach.proofs.Laying.{put-of, laid-none, laid-then, laid-kept, chosen-none, chosen-then, chosen-append, chosen-few}
 use Rattle.breach.proofs.Walking.{Reaches, reaches-more}
 
 -- ---- Rules 1 to 4
@@ -85,7 +84,7 @@ seen-more seen numbers n h s =
 pub record Passing (kind flags : ℕ) (l d out : List ℕ) (seen : List Bool) (place written : ℕ) : Type 0 where
   pub numbers : List ℕ
   pub reaches : Reaches l 0 numbers place
-  pub sound : fault (walkAt l place) ≡ none
+  pub same-fault : fault (walk l) ≡ fault (walkAt l place)
   pub notes : Seen seen numbers
   pub all : numbersOf (attributes (walk l)) ≡ numbers ++ numbersOf (attributes (walkAt l place))
   pub gone : List ℕ
@@ -94,13 +93,13 @@ pub record Passing (kind flags : ℕ) (l d out : List ℕ) (seen : List Bool) (p
   pub inside : place ≤ length l
   pub few : written ≤ 2 * place
 
-pub passing-none : (kind flags : ℕ) (l d : List ℕ) (seen : List Bool) → fault (walk l) ≡ none → Seen seen [] → Passing kind flags l d d seen 0 0
+pub passing-none : (kind flags : ℕ) (l d : List ℕ) (seen : List Bool) → Seen seen [] → Passing kind flags l d d seen 0 0
 unfolding walk
-passing-none kind flags l d seen s none-seen =
+passing-none kind flags l d seen none-seen =
     record {
       numbers = [];
       reaches = refl;
-      sound = s;
+      same-fault = refl;
       notes = none-seen;
       all = refl;
       gone = [];
@@ -112,21 +111,19 @@ passing-none kind flags l d seen s none-seen =
 
 module _ (kind flags : ℕ) (l d out : List ℕ) (seen : List Bool) (place written : ℕ) (k : Passing kind flags l d out seen place written) where
   -- one attribute more
-  pub passing-more : (r : Carried) → r ≡ carriedAt l place → Stands l place (r .number) (r .value) (r .next) → r .number < 512 → (again : Bool) (v held : List ℕ) (said : ℕ) → again ≡ onceOnly (r .number) && isIn (r .number) (k .numbers) → v ≡ take (r .next - r .value .start) (drop (r .value .start) l) → Laid (chosen (brokenBy kind flags again place (r .number) v)) out written said held → Passing kind flags l d held (set seen (r .number) true) (r .next) said
-  unfolding along attributes
-  passing-more r says s low again v held said a e laid =
-      let n : ℕ = r .number in
-      let behind : ℕ = r .next in
+  pub passing-more : (n : ℕ) (p : Part) (behind : ℕ) → record { number = n; value = p; next = behind } ≡ carriedAt l place → Stands l place n p behind → n < 512 → (again : Bool) (v held : List ℕ) (said : ℕ) → again ≡ onceOnly n && isIn n (k .numbers) → v ≡ take (behind - p .start) (drop (p .start) l) → Laid (chosen (brokenBy kind flags again place n v)) out written said held → Passing kind flags l d held (set seen n true) behind said
+  unfolding along attributes fault
+  passing-more n p behind says s low again v held said a e laid =
       let now : List ℕ = chosen (brokenBy kind flags again place n v) in
       let rest : List ℕ = chosen (along kind flags (k .numbers ++ n ∷ []) (attributes (walkAt l behind))) in
       let step : chosen (along kind flags (k .numbers) (attributes (walkAt l place))) ≡ now ++ rest =
       ap (λ (w : Walk). chosen (along kind flags (k .numbers) (attributes w))) (s .walks)
-      ∙ chosen-append (atAttribute kind flags (k .numbers) (attributeIn l place n (r .value))) (along kind flags (k .numbers ++ n ∷ []) (attributes (walkAt l behind)))
-      ∙ ap (λ (x : List ℕ). x ++ rest) (broken-by kind flags (k .numbers) l place n (r .value) behind again v (s .ends) a e) in
+      ∙ chosen-append (atAttribute kind flags (k .numbers) (attributeIn l place n p)) (along kind flags (k .numbers ++ n ∷ []) (attributes (walkAt l behind)))
+      ∙ ap (λ (x : List ℕ). x ++ rest) (broken-by kind flags (k .numbers) l place n p behind again v (s .ends) a e) in
       record {
         numbers = k .numbers ++ n ∷ [];
-        reaches = reaches-more l 0 (k .numbers) place r says (omega (arith, s .onwards)) (k .reaches);
-        sound = sound-behind l place n (r .value) behind s (k .sound);
+        reaches = reaches-more l 0 (k .numbers) place (record { number = n; value = p; next = behind }) says (omega (arith, s .onwards)) (k .reaches);
+        same-fault = k .same-fault ∙ ap fault (s .walks);
         notes = seen-more seen (k .numbers) n low (k .notes);
         all =
             k .all ∙ ap (λ (w : Walk). k .numbers ++ numbersOf (attributes w)) (s .walks)
@@ -138,16 +135,22 @@ module _ (kind flags : ℕ) (l d out : List ℕ) (seen : List Bool) (place writt
         few = omega (arith, k .few, s .onwards, laid .counts, broken-few kind flags again place n v);
       }
 
-  -- none is left: what was laid
-  pub passing-done : length l ≤ place → Passed kind flags l d written out
-  unfolding along chosen attributes
+  -- none is left: what was laid, and what was seen
+  pub passing-done : walkAt l place ≡ end → AlongSays kind flags l d (Whole written) out seen
+  unfolding AlongSays along chosen attributes fault
   passing-done h =
       let laid : chosen (along kind flags [] (attributes (walk l))) ≡ k .gone =
-      k .whole ∙ ap (λ (w : Walk). k .gone ++ chosen (along kind flags (k .numbers) (attributes w))) (walk-past l place h) ∙ append-nil (k .gone) in
-      record { lays = rw laid (k .lays); few = omega (arith, k .few, k .inside) }
+      k .whole ∙ ap (λ (w : Walk). k .gone ++ chosen (along kind flags (k .numbers) (attributes w))) h ∙ append-nil (k .gone) in
+      let noted : numbersOf (attributes (walk l)) ≡ k .numbers =
+      k .all ∙ ap (λ (w : Walk). k .numbers ++ numbersOf (attributes w)) h ∙ append-nil (k .numbers) in
+      record {
+        sound = k .same-fault ∙ ap fault h;
+        lays = rw laid (k .lays);
+        few = omega (arith, k .few, k .inside);
+        notes = rw noted (k .notes);
+      }
 
-  -- and what was seen
-  pub passing-noted : length l ≤ place → Seen seen (numbersOf (attributes (walk l)))
-  unfolding attributes
-  passing-noted h =
-      rw (k .all ∙ ap (λ (w : Walk). k .numbers ++ numbersOf (attributes w)) (walk-past l place h) ∙ append-nil (k .numbers)) (k .notes)
+  -- a refusal
+  pub passing-broken : (refused : Refusal) → walkAt l place ≡ broken (refused .number) (refused .second) → AlongSays kind flags l d (Broken refused) out seen
+  unfolding AlongSays fault
+  passing-broken refused h = record { first = k .same-fault ∙ ap fault h; kept = laid-kept (k .gone) d out 0 written (k .lays) }

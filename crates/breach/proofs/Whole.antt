@@ -1,5 +1,5 @@
 -- The whole list: what the attributes break, and then the end; and what checking answers. Assumes nothing.
-use mathlib.Core.Path.{_≡_, refl, sym, ap, _∙_}
+use mathlib.Core.Path.{_≡_, refl, sym, ap, subst, _∙_}
 use mathlib.Core.Bool.{Bool}
 use mathlib.Core.List.{List, [], _∷_, _++_}
 use Prim.Native.Nat.{ℕ, _+_, _≤_, _<_}
@@ -9,21 +9,22 @@ use lib.ListN.{length}
 use borrow.Author.Tests.{lt-ltb, le-ltb}
 use Rattle.meaning.specs.Jobs.{isKind}
 use Rattle.meaning.specs.Framing.{walk, attributes}
-use Rattle.meaning.specs.Refusals as book
-use Rattle.meaning.specs.Refusals.{none, refusal, areaRefusal, areaOrder}
+use Rattle.meaning.specs.Refusals.{none, areaRefusal, areaOrder}
 use Rattle.meaning.specs.Breaches.{chosen, along, atEnd, numbersOf, breaches}
-use Rattle.meaning.specs.Answers.{after, listOf, checkAnswer}
+use Rattle.meaning.specs.Answers.{over, after, listOf, checkAnswer}
 use Rattle.meaning.proofs.Tests.{parts, passes}
-use Rattle.meaning.proofs.Sheets.{clear}
+use Rattle.meaning.proofs.RoundTrip.{no-refusal}
 use Rattle.octets.proofs.Overs.{over-none}
 use Rattle.area.specs.declared.Refusal.{Refusal}
-use Rattle.area.specs.declared.Framing.{Framing}
-use Rattle.area.specs.declared.Framing.the-variants.{Whole, Broken}
-use Rattle.area.specs.Answers.{framingFrom, admittedOf}
+use Rattle.area.specs.declared.Arrival.the-variants.{Fit}
+use Rattle.area.specs.Answers.{inBook, arrivalOf}
+use Rattle.area.proofs.Admitted.{Arrived, fit-arrived}
 use Rattle.breach.specs.declared.Checking.the-variants as is
+use Rattle.breach.specs.declared.Tally.{Tally}
+use Rattle.breach.specs.declared.Tally.the-variants.{Whole, Broken}
 use Rattle.presence.specs.Rows.{rowOf}
 use Rattle.breach.specs.Table.{Known}
-use Rattle.breach.specs.Lists.{Laid, Seen, lackingIn, wantingIn, Ready, Passed, Admitted}
+use Rattle.breach.specs.Lists.{Laid, lackingIn, wantingIn, Ready, Broke, Passed, AlongSays, Listed, PassSays}
 use Rattle.breach.specs.Answers.{Checked}
 use Rattle.breach.proofs.Rows.{row-known}
 use Rattle.breach.proofs.Laying.{laid-then, laid-kept, laid-over, chosen-append, chosen-few}
@@ -37,97 +38,109 @@ end-low kind codes seen place at said d held p =
     omega (arith, p .counts, chosen-few (lackingIn kind codes seen place), lacking-six kind codes seen place)
 
 -- What the attributes break, then rules 5 and 6 and then rule 7 at the end are the whole list.
-pub pass-laid : (kind flags : ℕ) (area codes : List ℕ) (seen : List Bool) → Ready kind area codes → Seen seen (numbersOf (attributes (walk area))) → (d one two held : List ℕ) (first second said : ℕ) → Passed kind flags area d first one → Laid (chosen (lackingIn kind codes seen (length area))) one first second two → Laid (chosen (wantingIn kind flags codes seen (length area))) two second said held → Laid (listOf kind flags area) d 0 said held
-unfolding listOf breaches
-pass-laid kind flags area codes seen y s d one two held first second said p q r =
+pub pass-laid : (kind flags : ℕ) (area codes : List ℕ) (seen : List Bool) → Ready kind area codes → (d one two held : List ℕ) (first second said : ℕ) → Passed kind flags area d first one seen → Laid (chosen (lackingIn kind codes seen (length area))) one first second two → Laid (chosen (wantingIn kind flags codes seen (length area))) two second said held → PassSays kind flags area d (Whole said) held
+unfolding PassSays listOf breaches
+pass-laid kind flags area codes seen y d one two held first second said p q r =
     let before = along kind flags [] (attributes (walk area)) in
     let lacking = lackingIn kind codes seen (length area) in
     let wanting = wantingIn kind flags codes seen (length area) in
     let end : chosen lacking ++ chosen wanting ≡ chosen (atEnd kind flags (length area) (numbersOf (attributes (walk area)))) =
-    sym (chosen-append lacking wanting) ∙ ap chosen (end-meant kind flags (length area) codes seen (numbersOf (attributes (walk area))) (y .known) (y .row) s) in
-    rw (chosen-append before (atEnd kind flags (length area) (numbersOf (attributes (walk area)))), ← end)
-    (laid-then (chosen before) (chosen lacking ++ chosen wanting) d one held 0 first said (p .lays)
-    (laid-then (chosen lacking) (chosen wanting) one two held first second said q r))
+    sym (chosen-append lacking wanting) ∙ ap chosen (end-meant kind flags (length area) codes seen (numbersOf (attributes (walk area))) (y .known) (y .row) (p .notes)) in
+    record {
+      sound = p .sound;
+      lays =
+          rw (chosen-append before (atEnd kind flags (length area) (numbersOf (attributes (walk area)))), ← end)
+          (laid-then (chosen before) (chosen lacking ++ chosen wanting) d one held 0 first said (p .lays)
+          (laid-then (chosen lacking) (chosen wanting) one two held first second said q r));
+    }
+
+-- The answer of `along`, known by what it ensures and by the arm of a match.
+module _ (kind flags : ℕ) (area d : List ℕ) (r : Tally) (held : List ℕ) (seen : List Bool) (says : AlongSays kind flags area d r held seen) where
+  pub along-whole : (n : ℕ) → r ≡ Whole n → Passed kind flags area d n held seen
+  unfolding AlongSays
+  along-whole n q = subst (λ (t : Tally). AlongSays kind flags area d t held seen) q says
+
+  -- a refusal is handed on
+  pub along-broken : (refused : Refusal) → r ≡ Broken refused → PassSays kind flags area d (Broken refused) held
+  unfolding AlongSays PassSays
+  along-broken refused q = subst (λ (t : Tally). AlongSays kind flags area d t held seen) q says
 
 -- ---- Two passes
 
-module _ (kind flags : ℕ) (area : List ℕ) (a : Admitted kind flags area) where
-  admitted-known : Known kind
+-- The first that applies is a refusal, which leaves the buffer as it was.
+pub refused-checked : (kind flags : ℕ) (area : List ℕ) (refused : Refusal) (d : List ℕ) → areaRefusal kind flags area ≡ inBook refused → Checked kind flags area d (is.Refused refused) d
+unfolding checkAnswer areaOrder after
+refused-checked kind flags area refused d e = record { says = rw e; holds = rw e }
+
+-- a buffer with no room
+no-room : (p : List ℕ) → length p ≡ 0 → p ≡ []
+no-room [] h = refl
+no-room (x ∷ p) h = absurd (omega arith)
+
+-- Nothing of 1 to 3 applies.
+module _ (kind flags : ℕ) (area : List ℕ) (fit : arrivalOf kind flags (length area) ≡ Fit) where
+  arrived : Arrived kind flags area
+  arrived = fit-arrived kind flags area (arrivalOf kind flags (length area)) refl fit
+
+  pub arrived-ready : (codes : List ℕ) → codes ≡ rowOf kind → Ready kind area codes
   unfolding isKind
-  admitted-known =
-      let t = parts (leb 1 kind) (leb kind 6) (passes (isKind kind) (clear kind flags area (a .accepted) .kind-ok)) in
-      record { least = leb→le 1 kind (t .0); most = leb→le kind 6 (t .1) }
+  arrived-ready codes e =
+      let t = parts (leb 1 kind) (leb kind 6) (passes (isKind kind) (arrived .kind-ok)) in
+      let known : Known kind = record { least = leb→le 1 kind (t .0); most = leb→le kind 6 (t .1) } in
+      record { short = arrived .short; known = known; row = row-known kind codes known e }
 
-  pub admitted-ready : (codes : List ℕ) → codes ≡ rowOf kind → Ready kind area codes
-  admitted-ready codes e =
-      record {
-        short = clear kind flags area (a .accepted) .short;
-        sound = clear kind flags area (a .accepted) .sound;
-        known = admitted-known;
-        row = row-known kind codes admitted-known e;
-      }
+  -- The first pass has no room at all, so it changes nothing.
+  module _ (d p : List ℕ) (r : Tally) (first : PassSays kind flags area [] r p) where
+    -- the first of 4 to 8
+    pub framing-refused : (refused : Refusal) → r ≡ Broken refused → Checked kind flags area d (is.Refused refused) (p ++ d)
+    unfolding PassSays
+    framing-refused refused q =
+        let b : Broke area [] refused p = subst (λ (t : Tally). PassSays kind flags area [] t p) q first in
+        rw (no-room p (b .kept)) (refused-checked kind flags area refused d (arrived .left ∙ b .first))
 
-  -- the first pass has no room at all, so it changes nothing
-  none-held : (p : List ℕ) (needed : ℕ) → Laid (listOf kind flags area) [] 0 needed p → p ≡ []
-  none-held [] needed h = refl
-  none-held (x ∷ p) needed h = absurd (omega (arith, laid-kept (listOf kind flags area) [] (x ∷ p) 0 needed h))
+    -- so many entries are needed
+    module _ (needed : ℕ) (q : r ≡ Whole needed) where
+      whole : Listed kind flags area [] needed p
+      unfolding PassSays
+      whole = subst (λ (t : Tally). PassSays kind flags area [] t p) q first
 
-  module _ (d p : List ℕ) (needed : ℕ) (first : Laid (listOf kind flags area) [] 0 needed p) where
-    same : p ++ d ≡ d
-    same = ap (λ (x : List ℕ). x ++ d) (none-held p needed first)
+      accepted : areaRefusal kind flags area ≡ none
+      accepted = arrived .left ∙ whole .sound
 
-    counted : needed ≡ length (listOf kind flags area)
-    counted = omega (arith, first .counts)
+      same : p ++ d ≡ d
+      same = ap (λ (x : List ℕ). x ++ d) (no-room p (laid-kept (listOf kind flags area) [] p 0 needed (whole .lays)))
 
-    -- refusal 10
-    pub too-long : length (p ++ d) < needed → Checked kind flags area d (is.Refused (record { number = 10; second = needed })) (p ++ d)
-    unfolding checkAnswer areaOrder after
-    too-long h =
-        let t = lt-ltb (length d) (length (listOf kind flags area)) (omega (arith, counted, ap length same)) in
-        record { says = rw (counted, a .accepted, t); holds = rw (a .accepted, t) same }
+      counted : needed ≡ length (listOf kind flags area)
+      counted = omega (arith, whole .lays .counts)
 
-    -- the empty list
-    pub list-empty : needed ≡ 0 → Checked kind flags area d (is.List needed) (p ++ d)
-    unfolding checkAnswer areaOrder after
-    list-empty e =
-        let none-broken : listOf kind flags area ≡ [] = empty (listOf kind flags area) (sym counted ∙ e) in
-        let t = le-ltb (length d) (length (listOf kind flags area)) (omega (arith, counted)) in
-        record { says = rw (counted, a .accepted, t); holds = rw (a .accepted, t, none-broken) (same ∙ sym (over-none d)) }
-      where
-        empty : (l : List ℕ) → length l ≡ 0 → l ≡ []
-        empty [] h = refl
-        empty (x ∷ l) h = absurd (omega arith)
+      -- refusal 10
+      pub too-long : length (p ++ d) < needed → Checked kind flags area d (is.Refused (record { number = 10; second = needed })) (p ++ d)
+      unfolding checkAnswer areaOrder after
+      too-long h =
+          let t = lt-ltb (length d) (length (listOf kind flags area)) (omega (arith, counted, ap length same)) in
+          record { says = rw (counted, accepted, t); holds = rw (accepted, t) same }
 
-    -- the list
-    pub list-laid : (held : List ℕ) (said : ℕ) → needed ≤ length (p ++ d) → Laid (listOf kind flags area) (p ++ d) 0 said held → Checked kind flags area d (is.List needed) held
-    unfolding checkAnswer areaOrder after
-    list-laid held said h second =
-        let room : length (listOf kind flags area) ≤ length d = omega (arith, counted, ap length same) in
-        let t = le-ltb (length d) (length (listOf kind flags area)) room in
-        record {
-          says = rw (counted, a .accepted, t);
-          holds = rw (a .accepted, t) (laid-over (listOf kind flags area) d held said (rw same at second) room);
-        }
+      -- the empty list
+      pub list-empty : needed ≡ 0 → Checked kind flags area d (is.List needed) (p ++ d)
+      unfolding checkAnswer areaOrder after
+      list-empty e =
+          let none-broken : listOf kind flags area ≡ [] = no-room (listOf kind flags area) (sym counted ∙ e) in
+          let t = le-ltb (length d) (length (listOf kind flags area)) (omega (arith, counted)) in
+          record { says = rw (counted, accepted, t); holds = rw (accepted, t, none-broken) (same ∙ sym (over-none d)) }
 
--- ---- What the framing answered
+      -- in a well framed area a pass lays the list
+      second-laid : (said : Tally) (b held : List ℕ) → PassSays kind flags area b said held → length (listOf kind flags area) ≤ length b → held ≡ over (listOf kind flags area) b
+      unfolding PassSays
+      second-laid (Whole n) b held s room = laid-over (listOf kind flags area) b held n (s .lays) room
+      second-laid (Broken x) b held s room = no-refusal (x .number) (x .second) (sym (s .first) ∙ whole .sound)
 
--- The answer of `admit`, known by what it ensures and by the arm of a match.
-module _ (kind flags : ℕ) (area : List ℕ) (r : Framing) (says : r ≡ admittedOf kind flags area) where
-  pub whole-admitted : (count : ℕ) → r ≡ Whole count → Admitted kind flags area
-  unfolding admittedOf
-  whole-admitted count q = go (areaRefusal kind flags area) refl (sym q ∙ says)
-    where
-      go : (x : book.Refusal) → areaRefusal kind flags area ≡ x → Whole count ≡ framingFrom x (length (attributes (walk area))) → Admitted kind flags area
-      go none p e = record { accepted = p }
-      go (refusal n s) p e = absurd (let z : _≡_ {A = ℕ} 0 1 = cc in omega arith)
-
-  -- a refusal leaves the buffer as it was
-  pub broken-refused : (refused : Refusal) (d : List ℕ) → r ≡ Broken refused → Checked kind flags area d (is.Refused refused) d
-  unfolding admittedOf checkAnswer areaOrder after
-  broken-refused refused d q = go (areaRefusal kind flags area) refl (sym q ∙ says)
-    where
-      go : (x : book.Refusal) → areaRefusal kind flags area ≡ x → Broken refused ≡ framingFrom x (length (attributes (walk area))) → Checked kind flags area d (is.Refused refused) d
-      go none p e = absurd (let z : _≡_ {A = ℕ} 0 1 = cc in omega arith)
-      go (refusal n s) p e =
-          let same : refused ≡ record { number = n; second = s } = cc in
-          record { says = rw p (ap is.Refused same); holds = rw p }
+      -- the list
+      pub list-laid : (held : List ℕ) (said : Tally) → needed ≤ length (p ++ d) → PassSays kind flags area (p ++ d) said held → Checked kind flags area d (is.List needed) held
+      unfolding checkAnswer areaOrder after
+      list-laid held said h second =
+          let room : length (listOf kind flags area) ≤ length d = omega (arith, counted, ap length same) in
+          let t = le-ltb (length d) (length (listOf kind flags area)) room in
+          record {
+            says = rw (counted, accepted, t);
+            holds = rw (accepted, t) (second-laid said d held (rw same at second) room);
+          }

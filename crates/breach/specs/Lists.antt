@@ -10,9 +10,14 @@ use lib.Seq.{sets}
 use Rattle.meaning.specs.Octets.{isIn}
 use Rattle.meaning.specs.Framing.{gpp, walk, attributes}
 use Rattle.meaning.specs.Shapes.{shapeOf, meets, allowed}
-use Rattle.meaning.specs.Refusals.{none, fault, areaRefusal}
+use Rattle.meaning.specs.Refusals.{none, fault}
 use Rattle.meaning.specs.Presence.{codeDemands, codeWants}
-use Rattle.meaning.specs.Breaches.{entry, onceOnly, barred, asksPdpType, Candidate, put, chosen, along}
+use Rattle.meaning.specs.Breaches.{entry, onceOnly, barred, asksPdpType, Candidate, put, chosen, along, numbersOf}
+use Rattle.meaning.specs.Answers.{listOf}
+use Rattle.area.specs.declared.Refusal.{Refusal}
+use Rattle.area.specs.Answers.{inBook}
+use Rattle.breach.specs.declared.Tally.{Tally}
+use Rattle.breach.specs.declared.Tally.the-variants.{Whole, Broken}
 use Rattle.breach.specs.Table.{Known, Row}
 
 -- ---- Laying
@@ -108,18 +113,35 @@ wantingIn kind flags codes seen place = wantingFirst flags codes seen place ++ w
 
 -- ---- The whole
 
--- a well framed area of at most 4,076 octets that comes with a known kind and its row
+-- an area of at most 4,076 octets that comes with a known kind and its row
 pub record Ready (kind : ℕ) (area codes : List ℕ) : Type 0 where
   pub short : length area ≤ 4076
-  pub sound : fault (walk area) ≡ none
   pub known : Known kind
   pub row : Row kind codes
 
--- what the pass over an area's attributes says, and what the buffer holds then
-pub record Passed (kind flags : ℕ) (area d : List ℕ) (said : ℕ) (held : List ℕ) : Type 0 where
+-- what a pass over a broken area says, the first refusal of the framing; the buffer keeps its length
+pub record Broke (area d : List ℕ) (said : Refusal) (held : List ℕ) : Type 0 where
+  pub first : fault (walk area) ≡ inBook said
+  pub kept : length held ≡ length d
+
+-- what the pass over a well framed area's attributes says, what the buffer holds then, and that the numbers are noted
+pub record Passed (kind flags : ℕ) (area d : List ℕ) (said : ℕ) (held : List ℕ) (seen : List Bool) : Type 0 where
+  pub sound : fault (walk area) ≡ none
   pub lays : Laid (chosen (along kind flags [] (attributes (walk area)))) d 0 said held
   pub few : said ≤ 2 * length area
+  pub notes : Seen seen (numbersOf (attributes (walk area)))
 
--- an area of which nothing of 1 to 8 applies
-pub record Admitted (kind flags : ℕ) (area : List ℕ) : Type 0 where
-  pub accepted : areaRefusal kind flags area ≡ none
+-- the same of any area
+unfoldable pub AlongSays : (kind flags : ℕ) (area d : List ℕ) → Tally → (held : List ℕ) (seen : List Bool) → Type 0
+AlongSays kind flags area d (Whole n) held seen = Passed kind flags area d n held seen
+AlongSays kind flags area d (Broken r) held seen = Broke area d r held
+
+-- what the pass over a whole area that is well framed says, and what the buffer holds then
+pub record Listed (kind flags : ℕ) (area d : List ℕ) (said : ℕ) (held : List ℕ) : Type 0 where
+  pub sound : fault (walk area) ≡ none
+  pub lays : Laid (listOf kind flags area) d 0 said held
+
+-- the same of any area
+unfoldable pub PassSays : (kind flags : ℕ) (area d : List ℕ) → Tally → (held : List ℕ) → Type 0
+PassSays kind flags area d (Whole n) held = Listed kind flags area d n held
+PassSays kind flags area d (Broken r) held = Broke area d r held

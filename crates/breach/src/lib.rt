@@ -1,28 +1,35 @@
-// The check: the list of an attribute area's breaches. The framing is tested first; then one pass over the area only counts
-// the entries, and another lays them into the list.
-use area::Framing;
+// The check: the list of an attribute area's breaches. One pass over the area tests the framing and only counts the entries, and
+// another lays them into the list.
+use area::Arrival;
 use area::Refusal;
+use area::Step;
 ghost use mathlib.Core.Path.{_≡_};
 ghost use mathlib.Core.Bool.{true, not, _&&_, _||_};
 ghost use Prim.Native.Nat.{_≤_, _<_};
 ghost use lib.Dec.{eqb};
 ghost use lib.ListN.{length};
 ghost use mathlib.Core.List.{[]};
-ghost use Rattle.meaning.specs.Framing.{walk, attributes};
 ghost use Rattle.meaning.specs.Shapes.{shapeOf, meets, statusOf};
 ghost use Rattle.meaning.specs.Shapes as shapes;
 ghost use Rattle.meaning.specs.Presence.{codeBars, codeDemands, codeWants};
-ghost use Rattle.meaning.specs.Breaches.{entry, onceOnly, asksPdpType, chosen, numbersOf};
+ghost use Rattle.meaning.specs.Breaches.{entry, onceOnly, asksPdpType, chosen};
 ghost use Rattle.meaning.specs.Breaches as meant;
-ghost use Rattle.meaning.specs.Answers.{listOf};
+ghost use Rattle.area.specs.Answers.{arrivalOf};
+ghost use Rattle.area.specs.declared.Arrival.the-variants.{Fit};
 ghost use Rattle.breach.specs.Table.{Known, Row};
-ghost use Rattle.breach.specs.Lists.{Laid, Put, PutOf, searchEnd, Seen, brokenBy, lacksBy, wantsBy, lackingFirst, lackingThen, lackingIn, wantingFirst, wantingThen, wantingIn, Ready, Passed, Admitted};
+ghost use Rattle.breach.specs.Lists.{Laid, Put, PutOf, searchEnd, Seen, brokenBy, lacksBy, wantsBy, lackingFirst, lackingThen, lackingIn, wantingFirst, wantingThen, wantingIn, Ready, AlongSays, PassSays};
 ghost use Rattle.breach.specs.Answers.{Checked};
 
 // What checking answers: the number of entries that stand at the list's start, or a refusal.
 pub enum Checking {
     List(usize),
     Refused(Refusal),
+}
+
+// What a pass over an area gives: the number of entries, or the first refusal of the framing.
+enum Tally {
+    Whole(usize),
+    Broken(Refusal),
 }
 
 // Rule 4 by an entry of the table.
@@ -216,36 +223,45 @@ fn along(
     kind: u32,
     flags: u32,
     list: &mut [u32],
-) -> usize
+) -> Tally
     requires { ⌜ Ready kind (now area) (now codes) × Seen (now seen) [] ⌝ }
-    ensures { λ r. ⌜ Passed kind flags (now (area .entry)) (now (list .entry)) r (now (list .exit)) × Seen (now (seen .exit)) (numbersOf (attributes (walk (now (area .entry))))) ⌝ }
+    ensures { λ r. ⌜ AlongSays kind flags (now (area .entry)) (now (list .entry)) r (now (list .exit)) (now (seen .exit)) ⌝ }
 {
     let mut place: usize = 0;
     let mut written: usize = 0;
-    while place < area.len() {
-        let carried = area::carried_at(area, place);
-        let number = carried.number;
-        let value = carried.value;
-        let next = carried.next;
-        let n = number as usize;
-        let end = search_end(number, place, seen[n]);
-        let mut again = false;
-        let mut before: usize = 0;
-        'search: while before < end {
-            let earlier = area::carried_at(area, before);
-            if earlier.number == number {
-                again = true;
-                break 'search;
+    loop {
+        match area::step_at(area, place) {
+            Step::Attribute {
+                number,
+                value,
+                next,
+            } => {
+                let n = number as usize;
+                let end = search_end(number, place, seen[n]);
+                let mut again = false;
+                let mut before: usize = 0;
+                'search: while before < end {
+                    let earlier = area::carried_at(area, before);
+                    if earlier.number == number {
+                        again = true;
+                        break 'search;
+                    }
+                    before = earlier.next;
+                }
+                seen[n] = true;
+                let start = value.start;
+                let v = &area[start..next];
+                written = at_attribute(list, written, codes, kind, flags, place, number, v, again);
+                place = next;
             }
-            before = earlier.next;
+            Step::Refused(refusal) => {
+                return Tally::Broken(refusal);
+            }
+            Step::End => {
+                return Tally::Whole(written);
+            }
         }
-        seen[n] = true;
-        let start = value.start;
-        let v = &area[start..next];
-        written = at_attribute(list, written, codes, kind, flags, place, number, v, again);
-        place = next;
     }
-    written
 }
 
 // Rule 7: "Kinds 1, 2, 3, 6", where 3GPP 3 goes with plain attribute 7.
@@ -398,48 +414,62 @@ fn at_end_wanting(
     wanting_then(list, next, codes, seen, kind, flags, place)
 }
 
-// Passes over an area: lays the entries of its breaches into the list, as many as it has room for, and counts them all.
-fn pass(area: &[u8], codes: &[u8], kind: u32, flags: u32, list: &mut [u32]) -> usize
+// Passes over an area: lays the entries of its breaches into the list, as many as it has room for, and counts them all; or gives the
+// first refusal of the framing.
+fn pass(area: &[u8], codes: &[u8], kind: u32, flags: u32, list: &mut [u32]) -> Tally
     requires { ⌜ Ready kind (now area) (now codes) ⌝ }
-    ensures { λ r. ⌜ Laid (listOf kind flags (now (area .entry))) (now (list .entry)) 0 r (now (list .exit)) ⌝ }
+    ensures { λ r. ⌜ PassSays kind flags (now (area .entry)) (now (list .entry)) r (now (list .exit)) ⌝ }
 {
     let mut seen = [false; 512];
-    let at = along(area, codes, &mut seen, kind, flags, list);
-    let next = at_end_lacking(list, at, codes, &seen, kind, area.len());
-    at_end_wanting(list, next, codes, &seen, kind, flags, area.len())
+    match along(area, codes, &mut seen, kind, flags, list) {
+        Tally::Broken(refusal) => {
+            return Tally::Broken(refusal);
+        }
+        Tally::Whole(at) => {
+            let next = at_end_lacking(list, at, codes, &seen, kind, area.len());
+            let last = at_end_wanting(list, next, codes, &seen, kind, flags, area.len());
+            return Tally::Whole(last);
+        }
+    }
 }
 
-// The list of an area that is admitted with its kind and flags, at the buffer's start, or refusal 10.
+// The list of an area that comes with a fit kind, flags and length, at the buffer's start, or the first of refusals 4 to 8 and 10.
 fn lay(area: &[u8], kind: u32, flags: u32, list: &mut [u32]) -> Checking
-    requires { ⌜ Admitted kind flags (now area) ⌝ }
+    requires { ⌜ arrivalOf kind flags (length (now area)) ≡ Fit ⌝ }
     ensures { λ r. ⌜ Checked kind flags (now (area .entry)) (now (list .entry)) r (now (list .exit)) ⌝ }
 {
     let row = presence::row_of(kind);
     let codes = &row[..];
-    let needed = pass(area, codes, kind, flags, &mut list[..0]);
-    if list.len() < needed {
-        return Checking::Refused(Refusal {
-            number: 10,
-            second: needed,
-        });
+    match pass(area, codes, kind, flags, &mut list[..0]) {
+        Tally::Broken(refusal) => {
+            return Checking::Refused(refusal);
+        }
+        Tally::Whole(needed) => {
+            if list.len() < needed {
+                return Checking::Refused(Refusal {
+                    number: 10,
+                    second: needed,
+                });
+            }
+            // Most areas break nothing: then there is nothing to lay.
+            if needed == 0 {
+                return Checking::List(needed);
+            }
+            pass(area, codes, kind, flags, list);
+            return Checking::List(needed);
+        }
     }
-    // Most areas break nothing: then there is nothing to lay.
-    if needed == 0 {
-        return Checking::List(needed);
-    }
-    pass(area, codes, kind, flags, list);
-    Checking::List(needed)
 }
 
 // "Check: the same inputs give a list of breaches", at the buffer's start; a refusal leaves the buffer as it was.
 pub fn check(area: &[u8], kind: u32, flags: u32, list: &mut [u32]) -> Checking
     ensures { λ r. ⌜ Checked kind flags (now (area .entry)) (now (list .entry)) r (now (list .exit)) ⌝ }
 {
-    match area::admit(area, kind, flags) {
-        Framing::Broken(refusal) => {
+    match area::arrive(area, kind, flags) {
+        Arrival::Refused(refusal) => {
             return Checking::Refused(refusal);
         }
-        Framing::Whole(_) => {
+        Arrival::Fit => {
             return lay(area, kind, flags, list);
         }
     }

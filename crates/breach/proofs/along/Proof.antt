@@ -6,13 +6,13 @@ use mathlib.Core.Bool.{false, _&&_}
 use mathlib.Core.Logic.{⊎-elim}
 use mathlib.Core.Path.{_≡_, refl, _∙_}
 use native.Mathlib.Omega.{arith}
-use Rattle.area.proofs.Steps.{Stands, slice-octets}
-use Rattle.area.proofs.Carrying.{carried-stands}
+use Rattle.area.proofs.Steps.{Stands, slice-octets, step-attribute, step-refused, step-ended}
+use Rattle.area.proofs.Carrying.{step-carried}
 use Rattle.meaning.specs.Octets.{Octets, isIn}
 use Rattle.meaning.specs.Breaches.{onceOnly}
 use Rattle.breach.proofs.Laying.{laid-kept}
 use Rattle.breach.proofs.Walking.{Looking, looking-start, looking-none, looking-on, looking-found, looking-more}
-use Rattle.breach.proofs.Passes.{Passing, passing-none, passing-more, passing-done, passing-noted}
+use Rattle.breach.proofs.Passes.{Passing, passing-none, passing-more, passing-done, passing-broken}
 use Rattle.breach.proofs.along.Statement.{statement}
 use Rattle.breach.proofs.along.Tie as tie
 
@@ -31,69 +31,71 @@ abbrev μ-loop : tie.MeasureT-loop
 μ-loop area codes seen₀ kind flags list₀ place₀ written₀ seen list place written = length area - place
 
 -- the area holds octets
-octets : (k : tie.After-carried-at Inv-search μ-search Inv-loop μ-loop) → Octets (k .before .before .before .before .before .before .args .area .now)
-octets k = slice-octets (k .before .before .before .before .before .before .args .area .now) (k .before .before .before .before .before .shared-slice-known .given)
+octets : (k : tie.After-known-told Inv-search μ-search Inv-loop μ-loop) → Octets (k .before .before .before .before .before .before .before .before .args .area .now)
+octets k = slice-octets (k .before .before .before .before .before .before .before .before .args .area .now) (k .before .before .before .before .before .before .before .shared-slice-known .given)
 
--- what stands at the place
-stands : (k : tie.After-carried-at Inv-search μ-search Inv-loop μ-loop) →
-    (let r = k .carried-at .result in
-    Stands (k .before .before .before .before .before .before .args .area .now) (k .before .before .loop .place) (r .number) (r .value) (r .next))
-stands k =
-    carried-stands _ _ (octets k) _ (k .carried-at .ensures) (k .before .before .loop .inv .sound) (k .before .loop-test .taken)
+-- what stands at the place, in the arm of an attribute
+stands : (k : tie.After-known-told Inv-search μ-search Inv-loop μ-loop) →
+    (let f = k .before .number .given .0 in
+    Stands (k .before .before .before .before .before .before .before .before .args .area .now) (k .before .before .before .before .loop .place) (f .0) (f .1 .0) (f .1 .1 .0))
+stands k = step-attribute _ _ _ (k .before .before .before .step-at .ensures) _ _ _ (k .before .number .given .1)
 
 -- its number is carried
-low : (k : tie.After-carried-at Inv-search μ-search Inv-loop μ-loop) → k .carried-at .result .number < 512
+low : (k : tie.After-known-told Inv-search μ-search Inv-loop μ-loop) → k .before .number .given .0 .0 < 512
 low k = stands k .carried (octets k) .low
 
 -- the attribute that the search has left behind, seen from after it
-abbrev here : (c : tie.Left-search Inv-search μ-search Inv-loop μ-loop) → tie.After-carried-at Inv-search μ-search Inv-loop μ-loop
-here c = c .before .before .before .before .before
+abbrev here : (c : tie.Left-search Inv-search μ-search Inv-loop μ-loop) → tie.After-known-told Inv-search μ-search Inv-loop μ-loop
+here c = c .before .before .before .before
 
 -- After the search the flag says whether rule 3 is broken.
 flag : (c : tie.Left-search Inv-search μ-search Inv-loop μ-loop) →
-    (let n = here c .carried-at .result .number in
-    c .search-test .again ≡ (onceOnly n && isIn n (here c .before .before .loop .inv .numbers)))
+    (let n = here c .before .number .given .0 .0 in
+    c .search-test .again ≡ (onceOnly n && isIn n (here c .before .before .before .before .loop .inv .numbers)))
 flag c =
     let i = c .before .search .inv in
-    let o = here c .before .before .loop .inv in
+    let o = here c .before .before .before .before .loop .inv in
     ⊎-elim (λ w. w .1 ∙ i .1 ∙ looking-none _ _ _ _ _ (i .0) (o .numbers) (o .reaches) (w .0 .left))
     (λ w. w .4 ∙ looking-found _ _ _ _ _ (i .0) (w .0 .taken) _ (w .1 .ensures) (o .numbers) (o .reaches) (w .3 .taken))
     (c .search-test .came)
 
 loop-holds : tie.Need-loop-holds Inv-search μ-search Inv-loop μ-loop
-loop-holds c = let y = c .before .before .before .pre in passing-none _ _ _ _ _ (y .0 .sound) (y .1)
+loop-holds c = passing-none _ _ _ _ _ (c .before .before .before .pre .1)
 
-carried-at-requires : tie.Need-carried-at-requires Inv-search μ-search Inv-loop μ-loop
-carried-at-requires c κs = search needs
+step-at-requires : tie.Need-step-at-requires Inv-search μ-search Inv-loop μ-loop
+step-at-requires c κs = search needs
+
+enum-known-number : tie.Need-enum-known-number Inv-search μ-search Inv-loop μ-loop
+enum-known-number c = search needs
 
 cast-n : tie.Need-cast-n Inv-search μ-search Inv-loop μ-loop
 cast-n c = search needs
 
 element-copy-out-search-end : tie.Need-element-copy-out-search-end Inv-search μ-search Inv-loop μ-loop
-element-copy-out-search-end c = low (c .before)
+element-copy-out-search-end c = low c
 
 search-end-requires : tie.Need-search-end-requires Inv-search μ-search Inv-loop μ-loop
 search-end-requires c κs = search needs
 
 search-holds : tie.Need-search-holds Inv-search μ-search Inv-loop μ-loop
 search-holds c =
-    let k = c .before .before .before in
-    let o = k .before .before .loop .inv in
+    let k = c .before .before in
+    let o = k .before .before .before .before .loop .inv in
     (looking-start _ _ _ (o .numbers) _ _ (c .search-end .ensures) (o .reaches) (o .notes .says _ (low k)), refl)
 
-carried-at-requires-2 : tie.Need-carried-at-requires-2 Inv-search μ-search Inv-loop μ-loop
-carried-at-requires-2 c κs = search needs
+carried-at-requires : tie.Need-carried-at-requires Inv-search μ-search Inv-loop μ-loop
+carried-at-requires c κs = search needs
 
 search-less : tie.Need-search-less Inv-search μ-search Inv-loop μ-loop
 search-less c =
     let i = c .before .before .before .before .search .inv in
     let h = c .before .before .before .search-test .taken in
-    omega (arith, h, looking-on _ _ _ _ _ (i .0) h _ (c .before .before .carried-at2 .ensures))
+    omega (arith, h, looking-on _ _ _ _ _ (i .0) h _ (c .before .before .carried-at .ensures))
 
 search-again : tie.Need-search-again Inv-search μ-search Inv-loop μ-loop
 search-again c =
     let i = c .before .before .before .before .search .inv in
-    (looking-more _ _ _ _ _ (i .0) (c .before .before .before .search-test .taken) _ (c .before .before .carried-at2 .ensures) (c .if1 .left), i .1)
+    (looking-more _ _ _ _ _ (i .0) (c .before .before .before .search-test .taken) _ (c .before .before .carried-at .ensures) (c .if1 .left), i .1)
 
 element-write-seen : tie.Need-element-write-seen Inv-search μ-search Inv-loop μ-loop
 element-write-seen c = low (here c)
@@ -110,8 +112,8 @@ part-v-end c = stands (here c) .inside
 at-attribute-requires : tie.Need-at-attribute-requires Inv-search μ-search Inv-loop μ-loop
 at-attribute-requires c κs =
     let k = here (c .before .before) in
-    let p = k .before .before .loop .inv in
-    let y = k .before .before .before .before .before .before .pre .0 in
+    let p = k .before .before .before .before .loop .inv in
+    let y = k .before .before .before .before .before .before .before .before .pre .0 in
     (omega (arith, p .few, p .inside, y .short), omega (arith, p .inside, y .short), low k, y .known, y .row)
 
 loop-less : tie.Need-loop-less Inv-search μ-search Inv-loop μ-loop
@@ -123,16 +125,30 @@ loop-again : tie.Need-loop-again Inv-search μ-search Inv-loop μ-loop
 loop-again c =
     let t = c .before .before .before .before .before in
     let k = here t in
-    passing-more _ _ _ _ _ _ _ _ (k .before .before .loop .inv) _ (k .carried-at .ensures) (stands k) (low k) _ _ _ _ (flag t) refl (c .before .before .at-attribute .ensures)
+    let told = step-carried _ _ (octets k) _ (k .before .before .before .step-at .ensures) _ _ _ (k .before .number .given .1) in
+    passing-more _ _ _ _ _ _ _ _ (k .before .before .before .before .loop .inv) _ _ _ told (stands k) (low k) _ _ _ _ (flag t) refl (c .before .before .at-attribute .ensures)
+
+enum-known-refusal : tie.Need-enum-known-refusal Inv-search μ-search Inv-loop μ-loop
+enum-known-refusal c = search needs
 
 same-length : tie.Need-same-length Inv-search μ-search Inv-loop μ-loop
-same-length c = laid-kept _ _ _ _ _ (c .before .loop .inv .lays)
+same-length c = laid-kept _ _ _ _ _ (c .before .before .before .before .loop .inv .lays)
 
 returns : tie.Need-returns Inv-search μ-search Inv-loop μ-loop
 returns c =
-    let i = c .before .loop .inv in
-    let h = c .loop-test .left in
-    (passing-done _ _ _ _ _ _ _ _ i h, passing-noted _ _ _ _ _ _ _ _ i h)
+    passing-broken _ _ _ _ _ _ _ _ (c .before .before .before .before .loop .inv) _
+    (step-refused _ _ _ (c .before .before .before .step-at .ensures) _ (c .before .refusal .given .1))
+
+enum-told : tie.Need-enum-told Inv-search μ-search Inv-loop μ-loop
+enum-told c = search needs
+
+same-length-2 : tie.Need-same-length-2 Inv-search μ-search Inv-loop μ-loop
+same-length-2 c = laid-kept _ _ _ _ _ (c .before .before .before .loop .inv .lays)
+
+returns-2 : tie.Need-returns-2 Inv-search μ-search Inv-loop μ-loop
+returns-2 c =
+    passing-done _ _ _ _ _ _ _ _ (c .before .before .before .loop .inv)
+    (step-ended _ _ _ (c .before .before .step-at .ensures) (c .enum-told .given .1))
 
 pub along-spec : {M : Type 1} → statement M
 along-spec =
@@ -143,12 +159,13 @@ along-spec =
     Inv-loop
     μ-loop
     loop-holds
-    carried-at-requires
+    step-at-requires
+    enum-known-number
     cast-n
     element-copy-out-search-end
     search-end-requires
     search-holds
-    carried-at-requires-2
+    carried-at-requires
     search-less
     search-again
     element-write-seen
@@ -158,5 +175,9 @@ along-spec =
     at-attribute-requires
     loop-less
     loop-again
+    enum-known-refusal
     same-length
-    returns)
+    returns
+    enum-told
+    same-length-2
+    returns-2)

@@ -1,23 +1,26 @@
 -- `breach::check` meets its contract. Assumes nothing.
 use borrow.Author.Needs.{needs}
-use Rattle.breach.proofs.Whole.{broken-refused, whole-admitted}
+use mathlib.Core.Path.{sym, _∙_}
+use Rattle.area.proofs.Admitted.{refused-first}
+use Rattle.breach.proofs.Whole.{refused-checked}
 use Rattle.breach.proofs.check.Statement.{statement}
 use Rattle.breach.proofs.check.Tie as tie
 
-admit-requires : tie.Need-admit-requires
-admit-requires c κs = search needs
+arrive-requires : tie.Need-arrive-requires
+arrive-requires c κs = search needs
 
 enum-known-refusal : tie.Need-enum-known-refusal
 enum-known-refusal c = search needs
 
 returns : tie.Need-returns
-returns c = broken-refused _ _ _ _ (c .before .before .before .admit .ensures) _ _ (c .before .refusal .given .1)
+returns c =
+    refused-checked _ _ _ _ _ (refused-first _ _ _ _ (c .before .before .before .arrive .ensures) _ (c .before .refusal .given .1))
 
 enum-told : tie.Need-enum-told
 enum-told c = search needs
 
 lay-requires : tie.Need-lay-requires
-lay-requires c κs = whole-admitted _ _ _ _ (c .before .before .before .admit .ensures) _ (c .before .enum-told .given .1)
+lay-requires c κs = sym (c .before .before .before .arrive .ensures) ∙ c .before .enum-told .given .1
 
 same-length : tie.Need-same-length
 same-length c = search needs
@@ -29,7 +32,7 @@ pub check-spec : {M : Type 1} → statement M
 check-spec =
     tie.close
     (tie.spec
-    admit-requires
+    arrive-requires
     enum-known-refusal
     returns
     enum-told
