@@ -2,7 +2,8 @@
 use mathlib.Core.Path.{_≡_, refl, sym, ap, _∙_}
 use mathlib.Core.Bool.{Bool, true, false, cond}
 use mathlib.Core.List.{List, [], _∷_, _++_, append-assoc, append-nil}
-use Prim.Native.Nat.{ℕ, suc, _+_, _-_, _<_, _≤_}
+use Prim.Native.Nat.{ℕ, zero, suc, _+_, _-_, _<_, _≤_}
+use native.Mathlib.Nat.{add-zero}
 use native.Mathlib.Numerals.{add-one}
 use native.Mathlib.Omega.{arith}
 use borrow.Author.Tests.{le-leb, lt-leb, leb-true, leb-false}
@@ -205,6 +206,20 @@ module _ (at : ℕ) (s d out : List ℕ) (i : ℕ) (u : Begun at s d out i) wher
       ∙ rw (e, take-length s) (append-assoc (take at d) s (drop (at + length s) d))
       ∙ ap (λ (r : List ℕ). take at d ++ (s ++ r)) (sym (drop-drop (length s) at d))
       ∙ sym (laid-fits at s d (u .room))
+
+-- the octets of s up to the one at n, each stored at its place over d, one behind the other
+abbrev pub eachTo : (at : ℕ) (s d : List ℕ) → (n : ℕ) → List ℕ
+eachTo at s d zero = set d at (getD s 0 0)
+eachTo at s d (suc n) = set (eachTo at s d n) (at + suc n) (getD s (suc n) 0)
+
+-- Stored one behind the other, octets are laid there.
+module _ (at : ℕ) (s d : List ℕ) (room : at + length s ≤ length d) where
+  each-begun : (n : ℕ) → n < length s → Begun at s d (eachTo at s d n) (suc n)
+  each-begun zero h = rw (add-zero at) at (begun-more at s d d 0 (begun-none at s d room) h)
+  each-begun (suc n) h = rw (add-one (suc n)) at (begun-more at s d (eachTo at s d n) (suc n) (each-begun n (omega arith)) h)
+
+  pub each-laid : (n : ℕ) → length s ≡ suc n → eachTo at s d n ≡ laidAt at s d
+  each-laid n e = begun-all at s d (eachTo at s d n) (suc n) (each-begun n (omega arith)) (omega arith)
 
 -- Laid one behind the other, two pieces stand as one.
 pub laid-two : (at n : ℕ) (s t d : List ℕ) → length s ≡ n → at + (n + length t) ≤ length d → laidAt (at + n) t (laidAt at s d) ≡ laidAt at (s ++ t) d

@@ -3,10 +3,9 @@ use mathlib.Core.Path.{_≡_, refl, sym, ap, _∙_}
 use mathlib.Core.Bool.{Bool, true, false, cond}
 use mathlib.Core.List.{List, [], _∷_, _++_, append-assoc}
 use Prim.Native.Nat.{ℕ, suc, _+_, _-_, _*_, _%_, _≤_, _<_}
-use native.Mathlib.Nat.{add-zero}
 use native.Mathlib.Omega.{arith}
 use lib.Dec.{eqb}
-use lib.ListN.{length, take, drop, getD, set, length-append, length-drop}
+use lib.ListN.{length, take, drop, getD, length-append, length-drop}
 use lib.Seq.{take-at, take-all, take-add, drop-at, drop-drop, length-take-le}
 use borrow.Author.Tests.{eq-eqb, ne-eqb, lt-ltb, le-ltb}
 use Rattle.meaning.specs.Octets.{octetsOf, pack, packedLength, digitValue}
@@ -14,7 +13,7 @@ use Rattle.meaning.specs.Answers.{over}
 use Rattle.octets.specs.Parts.{partOf, laidAt}
 use Rattle.octets.specs.DigitStrings.{halves, packedOf}
 use Rattle.octets.specs.declared.Digits.{Digits}
-use Rattle.octets.proofs.Overs.{Begun, begun-none, begun-more, begun-all, laid-two, laid-fits, laid-length, laid-keeps}
+use Rattle.octets.proofs.Overs.{laid-two, laid-fits, laid-length, laid-keeps}
 use Rattle.octets.proofs.Halves.{halves-packed}
 use Rattle.area.specs.declared.Part.{Part}
 use Rattle.shape.specs.declared.Item.{Item}
@@ -64,15 +63,6 @@ qos-laid v digits release at buf first out r q room f h =
     let e : digits ≡ drop 3 v = q ∙ take-all (length v) (drop 3 v) (omega (arith, length-drop 3 v)) in
     let m : length (pack (halves (drop 3 v))) ≡ packedLength (length v - 3) = halves-packed (drop 3 v) ∙ ap packedLength (length-drop 3 v) in
     h ∙ rw (f, e, r) (laid-two at 1 (((digitValue (getD v 0 0) * 10 + digitValue (getD v 1 0)) % 256) ∷ []) (pack (halves (drop 3 v))) buf refl (omega arith))
-
--- four octets, stored one behind the other
-pub four-laid : (at : ℕ) (s d : List ℕ) → length s ≡ 4 → at + 4 ≤ length d → set (set (set (set d at (getD s 0 0)) (at + 1) (getD s 1 0)) (at + 2) (getD s 2 0)) (at + 3) (getD s 3 0) ≡ laidAt at s d
-four-laid at s d size room =
-    let none : Begun at s d d 0 = begun-none at s d (omega (arith, size)) in
-    let one : Begun at s d (set d at (getD s 0 0)) 1 = rw (add-zero at) at (begun-more at s d d 0 none (omega (arith, size))) in
-    let two = begun-more at s d _ 1 one (omega (arith, size)) in
-    let three = begun-more at s d _ 2 two (omega (arith, size)) in
-    begun-all at s d _ 4 (begun-more at s d _ 3 three (omega (arith, size))) (omega (arith, size))
 
 -- A piece laid before another that was laid already: both stand as one.
 laid-before : (at n : ℕ) (s t d : List ℕ) → length s ≡ n → at + (n + length t) ≤ length d → laidAt at s (laidAt (at + n) t d) ≡ laidAt at (s ++ t) d

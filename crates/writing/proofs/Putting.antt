@@ -3,7 +3,6 @@ use mathlib.Core.Path.{_≡_, refl, sym, ap, _∙_}
 use mathlib.Core.Bool.{Bool, true, false, cond, _&&_, and-true}
 use mathlib.Core.List.{List, [], _∷_, _++_}
 use Prim.Native.Nat.{ℕ, _+_, _*_, _-_, _/_, _%_, _<_, _≤_}
-use native.Mathlib.Nat.{add-zero}
 use native.Mathlib.Omega.{arith}
 use lib.Dec.{eqb, ltb}
 use borrow.Author.Tests.{lt-ltb, le-ltb, le-leb, lt-leb, eq-eqb, ne-eqb}
@@ -13,7 +12,7 @@ use Rattle.meaning.specs.Octets.{digitText, text, unpack}
 use Rattle.meaning.specs.Shapes.{shapeOf}
 use Rattle.meaning.specs.Sheet.{attributeOctets, marked}
 use Rattle.octets.specs.Parts.{laidAt}
-use Rattle.octets.proofs.Overs.{Begun, begun-none, begun-more, begun-all, laid-two}
+use Rattle.octets.proofs.Overs.{each-laid, laid-two}
 use Rattle.shape.specs.Codes.{codeOf}
 use Rattle.item.proofs.Texts.{whole-length}
 use Rattle.area.specs.Answers.{headLength}
@@ -50,15 +49,8 @@ plain-head : (n k : ℕ) → n < 256 → n ∷ (k + 2) ∷ [] ≡ attributeHead 
 unfolding attributeHead
 plain-head n k h = rw (lt-ltb n 256 h)
 
--- two octets, stored one behind the other
-two-laid : (at a b : ℕ) (d : List ℕ) → at + 2 ≤ length d → set (set d at a) (at + 1) b ≡ laidAt at (a ∷ b ∷ []) d
-two-laid at a b d h =
-    let s : List ℕ = a ∷ b ∷ [] in
-    let one : Begun at s d (set d at a) 1 = rw (add-zero at) at (begun-more at s d d 0 (begun-none at s d h) (omega arith)) in
-    begun-all at s d (set (set d at a) (at + 1) b) 2 (begun-more at s d (set d at a) 1 one (omega arith)) (omega arith)
-
 pub plain-laid : (n k at : ℕ) (d : List ℕ) → n < 256 → at + headLength n ≤ length d → set (set d at n) (at + 1) (k + 2) ≡ laidAt at (attributeHead n k) d
-plain-laid n k at d h room = two-laid at n (k + 2) d (omega (arith, head-two n)) ∙ ap (λ (s : List ℕ). laidAt at s d) (plain-head n k h)
+plain-laid n k at d h room = each-laid at (n ∷ (k + 2) ∷ []) d (omega (arith, head-two n)) 1 refl ∙ ap (λ (s : List ℕ). laidAt at s d) (plain-head n k h)
 
 pub gpp-head : (n k : ℕ) → 256 ≤ n → 26 ∷ (k + 8) ∷ 0 ∷ 0 ∷ 40 ∷ 175 ∷ (n - 256) ∷ (k + 2) ∷ [] ≡ attributeHead n k
 unfolding attributeHead

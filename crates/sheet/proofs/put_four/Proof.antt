@@ -2,7 +2,7 @@
 use borrow.Author.Needs.{needs}
 use lib.ListN.{length-set}
 use native.Mathlib.Omega.{arith}
-use Rattle.sheet.proofs.Laying.{four-laid}
+use Rattle.octets.proofs.Overs.{each-laid}
 use Rattle.sheet.proofs.put_four.Statement.{statement}
 use Rattle.sheet.proofs.put_four.Tie as tie
 
@@ -43,7 +43,7 @@ same-length : tie.Need-same-length
 same-length c = search needs
 
 returns : tie.Need-returns
-returns c = four-laid _ _ _ (omega arith) (c .pre)
+returns c = each-laid _ _ _ (omega (arith, c .pre)) 3 (omega arith)
 
 pub put-four-spec : {M : Type 1} → statement M
 put-four-spec =
