@@ -12,6 +12,7 @@ use Rattle.meaning.specs.Octets.{digitText, text, unpack}
 use Rattle.meaning.specs.Shapes.{shapeOf}
 use Rattle.meaning.specs.Sheet.{attributeOctets, marked}
 use Rattle.octets.specs.Parts.{laidAt}
+use Rattle.octets.proofs.Parts.{part-four, part-rest}
 use Rattle.octets.proofs.Overs.{each-laid, laid-two}
 use Rattle.shape.specs.Codes.{codeOf}
 use Rattle.item.proofs.Texts.{whole-length}
@@ -52,9 +53,14 @@ plain-head n k h = rw (lt-ltb n 256 h)
 pub plain-laid : (n k at : ℕ) (d : List ℕ) → n < 256 → at + headLength n ≤ length d → set (set d at n) (at + 1) (k + 2) ≡ laidAt at (attributeHead n k) d
 plain-laid n k at d h room = each-laid at (n ∷ (k + 2) ∷ []) d (omega (arith, head-two n)) 1 refl ∙ ap (λ (s : List ℕ). laidAt at s d) (plain-head n k h)
 
-pub gpp-head : (n k : ℕ) → 256 ≤ n → 26 ∷ (k + 8) ∷ 0 ∷ 0 ∷ 40 ∷ 175 ∷ (n - 256) ∷ (k + 2) ∷ [] ≡ attributeHead n k
+gpp-head : (n k : ℕ) → 256 ≤ n → 26 ∷ (k + 8) ∷ 0 ∷ 0 ∷ 40 ∷ 175 ∷ (n - 256) ∷ (k + 2) ∷ [] ≡ attributeHead n k
 unfolding attributeHead
 gpp-head n k h = rw (le-ltb n 256 h)
+
+pub gpp-laid : (n k at : ℕ) (d first out : List ℕ) → 256 ≤ n → at + 8 ≤ length d → first ≡ laidAt at (26 ∷ (k + 8) ∷ 0 ∷ 0 ∷ []) d → out ≡ laidAt (at + 4) (40 ∷ 175 ∷ (n - 256) ∷ (k + 2) ∷ []) first → out ≡ laidAt at (attributeHead n k) d
+gpp-laid n k at d first out h room f e =
+    e ∙ rw f (laid-two at 4 (26 ∷ (k + 8) ∷ 0 ∷ 0 ∷ []) (40 ∷ 175 ∷ (n - 256) ∷ (k + 2) ∷ []) d refl room)
+    ∙ ap (λ (s : List ℕ). laidAt at s d) (gpp-head n k h)
 
 -- ---- The value by its form
 
@@ -78,6 +84,20 @@ module _ (n f c : ℕ) (st : List ℕ) where
   pub value-other : (f ≡ 4 → ⊥) → (f ≡ 5 → ⊥) → (f ≡ 6 → ⊥) → (f ≡ 7 → ⊥) → valueAs n f c st ≡ st
   unfolding valueAs
   value-other four five six seven = rw (ne-eqb f 4 four, ne-eqb f 5 five, ne-eqb f 6 six, ne-eqb f 7 seven)
+
+-- forms 2 and 3, a number and an address: four octets as they stand
+module _ (n f c : ℕ) (st : List ℕ) (w : Written n f c st) (low : 2 ≤ f) (high : f < 4) where
+  pub four-stored : length st ≡ 4
+  four-stored = w .stored-long ∙ rw (ne-eqb f 4 (λ e. omega arith)) (w .four low high)
+
+  pub four-room : (at room : ℕ) → at + valueLength f c ≤ room → at + 4 ≤ room
+  four-room at room h = omega (arith, w .four low high, length-other f c (λ e. omega arith) (λ e. omega arith))
+
+  pub value-four : valueAs n f c st ≡ getD st 0 0 ∷ getD st 1 0 ∷ getD st 2 0 ∷ getD st 3 0 ∷ []
+  value-four =
+      value-other n f c st (λ e. omega arith) (λ e. omega arith) (λ e. omega arith) (λ e. omega arith)
+      ∙ sym (part-rest st 0 4 (omega (arith, four-stored)))
+      ∙ sym (part-four st 0 _ _ _ _ (omega (arith, four-stored)) refl refl refl refl)
 
 -- the release, the dash and the digits behind it
 pub profile-laid : (st r : List ℕ) (tens ones at : ℕ) (buf first out : List ℕ) → tens ≡ digitText (getD st 0 0 / 10 % 16) → ones ≡ digitText (getD st 0 0 % 10 % 16) → r ≡ take (length st - 1) (drop 1 st) → 1 ≤ length st → at + (1 + 2 * length st) ≤ length buf → first ≡ laidAt at (tens ∷ ones ∷ 45 ∷ []) buf → out ≡ laidAt (at + 3) (text (unpack (2 * (length st - 1)) r)) first → out ≡ laidAt at (profileText st) buf

@@ -35,11 +35,13 @@ valueAs n f c st =
     (cond (eqb f 6) (profileText st)
     (cond (eqb f 7) (cond (eqb (codeOf (shapeOf n)) 71) (getD st 0 0) (digitText (getD st 0 0 % 16)) ∷ []) st)))
 
--- an item that some readable attribute gives: its octets are as many as it announces, and so are its value's
+-- an item that some readable attribute gives: its octets are as many as it announces, and so are its value's; a number and an
+-- address have four
 pub record Written (n f c : ℕ) (st : List ℕ) : Type 0 where
   pub low : n < 512
   pub stored-long : length st ≡ storedLength f c
   pub value-long : length (valueAs n f c st) ≡ valueLength f c
   pub short : headLength n + valueLength f c < 256
   pub counted : c < 256
+  pub four : 2 ≤ f → f < 4 → c ≡ 4
   pub some : 6 ≤ f → f ≤ 7 → 1 ≤ length st

@@ -43,6 +43,17 @@ fn value_len(form: u8, count: u8) -> usize
     n
 }
 
+// Lays four octets, which have room there.
+fn put_four(buf: &mut [u8], at: usize, four: [u8; 4])
+    requires { ⌜ at + 4 ≤ length (now buf) ⌝ }
+    ensures { λ _. ⌜ now (buf .exit) ≡ laidAt at four (now (buf .entry)) ⌝ }
+{
+    buf[at] = four[0];
+    buf[at + 1] = four[1];
+    buf[at + 2] = four[2];
+    buf[at + 3] = four[3];
+}
+
 // Lays the head of an attribute whose value has so many octets.
 fn put_head(buf: &mut [u8], at: usize, number: u16, len: usize)
     requires { ⌜ (number < 512) × ((headLength number + len < 256) × (at + headLength number ≤ length (now buf))) ⌝ }
@@ -54,17 +65,8 @@ fn put_head(buf: &mut [u8], at: usize, number: u16, len: usize)
         buf[at + 1] = own;
         return;
     }
-    let head = [
-        26,
-        (len + 8) as u8,
-        0,
-        0,
-        40,
-        175,
-        (number - 256) as u8,
-        own,
-    ];
-    octets::copy_at(buf, at, &head);
+    put_four(buf, at, [26, (len + 8) as u8, 0, 0]);
+    put_four(buf, at + 4, [40, 175, (number - 256) as u8, own]);
 }
 
 // Lays the text of a QoS profile: the release's two digits, a dash, then the hexadecimal digits.
@@ -99,6 +101,10 @@ fn put_value(buf: &mut [u8], at: usize, number: u16, form: u8, count: u8, stored
     ensures { λ _. ⌜ now (buf .exit) ≡ laidAt at (valueAs number form count (now (stored .entry))) (now (buf .entry)) ⌝ }
 {
     match form {
+        2 | 3 => {
+            put_four(buf, at, [stored[0], stored[1], stored[2], stored[3]]);
+            return;
+        }
         4 => {
             octets::unpack_at(buf, at, stored, octets::wide(count));
             return;

@@ -2,7 +2,7 @@
 use borrow.Author.Needs.{needs}
 use native.Mathlib.Omega.{arith}
 use Rattle.octets.proofs.Overs.{laid-as}
-use Rattle.writing.proofs.Putting.{value-4, value-5, value-6, value-7, value-other, length-6}
+use Rattle.writing.proofs.Putting.{value-4, value-5, value-6, value-7, value-four, four-stored, four-room, value-other, length-6}
 use Rattle.writing.proofs.put_value.Statement.{statement}
 use Rattle.writing.proofs.put_value.Tie as tie
 
@@ -62,14 +62,35 @@ same-length-4 c = search needs
 returns-4 : tie.Need-returns-4
 returns-4 c = laid-as _ _ _ _ _ (value-7 _ _ _ _ _ (c .before .before .before .before .before .before .before .match .keys4) (c .before .before .before .before .before .octet-text .ensures)) (c .before .before .copy-at .ensures .holds)
 
-copy-at-requires-2 : tie.Need-copy-at-requires-2
-copy-at-requires-2 c κs = search needs
+shared-slice-read-t33 : tie.Need-shared-slice-read-t33
+shared-slice-read-t33 c = omega (arith, four-stored _ _ _ _ (c .before .before .before .before .before .before .before .pre .0) (c .before .before .before .if1 .left) (c .before .before .if2 .taken))
+
+shared-slice-read-t35 : tie.Need-shared-slice-read-t35
+shared-slice-read-t35 c = omega (arith, four-stored _ _ _ _ (c .before .before .before .before .before .before .before .before .pre .0) (c .before .before .before .before .if1 .left) (c .before .before .before .if2 .taken))
+
+shared-slice-read-t37 : tie.Need-shared-slice-read-t37
+shared-slice-read-t37 c = omega (arith, four-stored _ _ _ _ (c .before .before .before .before .before .before .before .before .before .pre .0) (c .before .before .before .before .before .if1 .left) (c .before .before .before .before .if2 .taken))
+
+shared-slice-read-t39 : tie.Need-shared-slice-read-t39
+shared-slice-read-t39 c = omega (arith, four-stored _ _ _ _ (c .before .before .before .before .before .before .before .before .before .before .pre .0) (c .before .before .before .before .before .before .if1 .left) (c .before .before .before .before .before .if2 .taken))
+
+put-four-requires : tie.Need-put-four-requires
+put-four-requires c κs = four-room _ _ _ _ (c .before .before .before .before .before .before .before .before .before .before .pre .0) (c .before .before .before .before .before .before .if1 .left) (c .before .before .before .before .before .if2 .taken) _ _ (c .before .before .before .before .before .before .before .before .before .before .pre .1)
 
 same-length-5 : tie.Need-same-length-5
 same-length-5 c = search needs
 
 returns-5 : tie.Need-returns-5
-returns-5 c = let r = c .before .before .before .before .match .rest in laid-as _ _ _ _ _ (value-other _ _ _ _ (r .0 .0 .0 .1) (r .0 .0 .1) (r .0 .1) (r .1)) (c .before .before .copy-at2 .ensures .holds)
+returns-5 c = laid-as _ _ _ _ _ (value-four _ _ _ _ (c .before .before .before .before .before .before .before .before .before .before .before .before .before .pre .0) (c .before .before .before .before .before .before .before .before .before .if1 .left) (c .before .before .before .before .before .before .before .before .if2 .taken)) (c .before .before .put-four .ensures)
+
+copy-at-requires-2 : tie.Need-copy-at-requires-2
+copy-at-requires-2 c κs = search needs
+
+same-length-6 : tie.Need-same-length-6
+same-length-6 c = search needs
+
+returns-6 : tie.Need-returns-6
+returns-6 c = let r = c .before .before .before .before .before .match .rest in laid-as _ _ _ _ _ (value-other _ _ _ _ (r .0 .0 .0 .1) (r .0 .0 .1) (r .0 .1) (r .1)) (c .before .before .copy-at2 .ensures .holds)
 
 pub put-value-spec : {M : Type 1} → statement M
 put-value-spec =
@@ -92,6 +113,13 @@ put-value-spec =
     copy-at-requires
     same-length-4
     returns-4
-    copy-at-requires-2
+    shared-slice-read-t33
+    shared-slice-read-t35
+    shared-slice-read-t37
+    shared-slice-read-t39
+    put-four-requires
     same-length-5
-    returns-5)
+    returns-5
+    copy-at-requires-2
+    same-length-6
+    returns-6)
