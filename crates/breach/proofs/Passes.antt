@@ -7,19 +7,20 @@ use native.Mathlib.Omega.{arith}
 use lib.Dec.{eqb}
 use lib.ListN.{length, take, drop, getD, set, replicate, length-set, length-replicate, getD-replicate}
 use lib.Seq.{getD-set-same, getD-set-other}
-use borrow.Author.Tests.{eqb-true, eqb-false}
+use borrow.Author.Tests.{eqb-true, eqb-false, not-true}
 use Rattle.meaning.specs.Octets.{isIn}
 use Rattle.meaning.specs.Framing.{Walk, end, broken, walk, walkAt, attributes}
 use Rattle.meaning.specs.Refusals.{fault}
 use Rattle.meaning.specs.Shapes.{shapeOf, meets, allowed}
 use Rattle.meaning.specs.Breaches.{entry, barred, onceOnly, misses, offends, chosen, atAttribute, along, numbersOf}
+use Rattle.meaning.proofs.Tests.{parts, is-true, passes}
 use Rattle.area.specs.declared.Refusal.{Refusal}
 use Rattle.area.specs.declared.Part.{Part}
 use Rattle.area.specs.Answers.{carriedAt}
 use Rattle.area.proofs.Steps.{Stands, attributeIn}
 use Rattle.breach.specs.declared.Tally.the-variants.{Whole, Broken}
 use Rattle.breach.specs.Lists.{Laid, Put, Seen, brokenBy, AlongSays}
-use Rattle.breach.proofs.Laying.{put-of, laid-none, laid-then, laid-kept, chosen-none, chosen-then, chosen-append, chosen-few}
+use Rattle.breach.proofs.Laying.{put-not, put-of, laid-none, laid-then, laid-kept, chosen-none, chosen-then, chosen-append, chosen-few}
 use Rattle.breach.proofs.Walking.{Reaches, reaches-more}
 
 -- ---- Rules 1 to 4
@@ -44,6 +45,18 @@ broken-laid kind flags again place n v met off bar d one two three held at first
     (chosen-then _ _ one two held first second said (put-of _ _ _ _ _ _ (rw (o, m)) q)
     (chosen-then _ _ two three held second third said (put-of _ _ _ _ _ _ refl r)
     (chosen-then _ _ three held held third said said (put-of _ _ _ _ _ _ b s) (chosen-none held said))))
+
+-- an attribute that breaks no rule
+pub broken-none : (kind flags : ℕ) (again : Bool) (place n : ℕ) (v : List ℕ) (met off bar : Bool) (d : List ℕ) (at : ℕ) → met ≡ meets (shapeOf n) v → off ≡ met && not (allowed kind n v) → bar ≡ barred kind flags n → (met && not off) && (not again && not bar) ≡ true → Laid (chosen (brokenBy kind flags again place n v)) d at at d
+broken-none kind flags again place n v met off bar d at m o b t =
+    let two = parts (met && not off) (not again && not bar) (passes _ t) in
+    let shape = parts met (not off) (two .0) in
+    let rest = parts (not again) (not bar) (two .1) in
+    broken-laid kind flags again place n v met off bar d d d d d at at at at at m o b
+    (put-not (not met) (entry place 1 n) d at (ap not (is-true met (shape .0))))
+    (put-not off (entry place 2 n) d at (not-true off (is-true (not off) (shape .1))))
+    (put-not again (entry place 3 n) d at (not-true again (is-true (not again) (rest .0))))
+    (put-not bar (entry place 4 n) d at (not-true bar (is-true (not bar) (rest .1))))
 
 -- ---- The numbers seen
 

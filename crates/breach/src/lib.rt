@@ -90,9 +90,20 @@ fn barred(codes: &[u8], kind: u32, flags: u32, number: u16) -> bool
     ensures { λ r. ⌜ r ≡ meant.barred kind flags number ⌝ }
 {
     if number < 256 {
-        return code_bars(codes[number as usize], flags);
+        let code = codes[number as usize];
+        // Most codes bar nothing, whatever the flags.
+        if code < 2 {
+            return false;
+        }
+        return code_bars(code, flags);
     }
-    ((number == 267) & !(kind == 3)) | (((4 <= kind) & (kind <= 5)) & is_listed_3gpp(number))
+    if number == 267 {
+        return kind != 3;
+    }
+    if kind < 4 {
+        return false;
+    }
+    (kind <= 5) & is_listed_3gpp(number)
 }
 
 // "40 is 1, 2, 7, 8, 3 for kinds 2, 3, 4, 5, 6".
@@ -194,24 +205,16 @@ fn at_attribute(
     ensures { λ r. ⌜ Laid (chosen (brokenBy kind flags again place number (now (value .entry)))) (now (list .entry)) at r (now (list .exit)) ⌝ }
 {
     let met = shape::meets(number, value);
+    let offending = offends(kind, number, value, met);
+    let bars = barred(codes, kind, flags, number);
+    // Most attributes break nothing.
+    if (met & !offending) & (!again & !bars) {
+        return at;
+    }
     let first = put(list, at, !met, place, 1, number);
-    let second = put(
-        list,
-        first,
-        offends(kind, number, value, met),
-        place,
-        2,
-        number,
-    );
+    let second = put(list, first, offending, place, 2, number);
     let third = put(list, second, again, place, 3, number);
-    put(
-        list,
-        third,
-        barred(codes, kind, flags, number),
-        place,
-        4,
-        number,
-    )
+    put(list, third, bars, place, 4, number)
 }
 
 // Lays what the attributes of an area break, from the left, and notes the numbers seen. Rule 3, "an earlier attribute carries the same

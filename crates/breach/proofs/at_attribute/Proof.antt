@@ -1,17 +1,24 @@
 -- `breach::at_attribute` meets its contract. Assumes nothing.
 use borrow.Author.Needs.{needs}
-use Rattle.breach.proofs.Passes.{broken-laid}
+use Rattle.breach.proofs.Passes.{broken-laid, broken-none}
 use Rattle.breach.proofs.at_attribute.Statement.{statement}
 use Rattle.breach.proofs.at_attribute.Tie as tie
 
 meets-requires : tie.Need-meets-requires
 meets-requires c κs = search needs
 
-put-requires : tie.Need-put-requires
-put-requires c κs = search needs
-
 offends-requires : tie.Need-offends-requires
 offends-requires c κs = search needs
+
+barred-requires : tie.Need-barred-requires
+barred-requires c κs = search needs
+
+returns : tie.Need-returns
+returns c =
+    broken-none _ _ _ _ _ _ _ _ _ _ _ (c .before .before .before .meets .ensures) (c .before .before .offends .ensures) (c .before .barred .ensures) (c .if1 .taken)
+
+put-requires : tie.Need-put-requires
+put-requires c κs = search needs
 
 put-requires-2 : tie.Need-put-requires-2
 put-requires-2 c κs = search needs
@@ -19,33 +26,32 @@ put-requires-2 c κs = search needs
 put-requires-3 : tie.Need-put-requires-3
 put-requires-3 c κs = search needs
 
-barred-requires : tie.Need-barred-requires
-barred-requires c κs = search needs
-
 put-requires-4 : tie.Need-put-requires-4
 put-requires-4 c κs = search needs
 
 same-length : tie.Need-same-length
 same-length c = search needs
 
-returns : tie.Need-returns
-returns c =
+returns-2 : tie.Need-returns-2
+returns-2 c =
     let fourth = c .before .before in
-    let third = fourth .before .before .before .before .before in
+    let third = fourth .before .before .before .before in
     let second = third .before .before .before .before in
-    let first = second .before .before .before .before .before in
-    broken-laid _ _ _ _ _ _ _ _ _ _ _ _ _ _ _ _ _ _ _ (first .before .before .meets .ensures) (second .before .offends .ensures) (fourth .before .barred .ensures) (first .put .ensures) (second .put2 .ensures) (third .put3 .ensures) (fourth .put4 .ensures)
+    let first = second .before .before .before .before in
+    let tests = first .before .before .before in
+    broken-laid _ _ _ _ _ _ _ _ _ _ _ _ _ _ _ _ _ _ _ (tests .before .before .meets .ensures) (tests .before .offends .ensures) (tests .barred .ensures) (first .put .ensures) (second .put2 .ensures) (third .put3 .ensures) (fourth .put4 .ensures)
 
 pub at-attribute-spec : {M : Type 1} → statement M
 at-attribute-spec =
     tie.close
     (tie.spec
     meets-requires
-    put-requires
     offends-requires
+    barred-requires
+    returns
+    put-requires
     put-requires-2
     put-requires-3
-    barred-requires
     put-requires-4
     same-length
-    returns)
+    returns-2)
