@@ -1,12 +1,11 @@
 -- Halves two to an octet, once over the count: what stands at each place. Assumes nothing.
 use mathlib.Core.Path.{_≡_, refl, sym, ap, ap₂, _∙_}
-use mathlib.Core.List.{List, [], _∷_, map}
+use mathlib.Core.List.{List, [], _∷_, _++_, map}
 use Prim.Native.Nat.{ℕ, zero, suc, _+_, _*_, _/_, _%_, _<_, _≤_}
 use native.Mathlib.Omega.{arith}
 use native.Mathlib.Nat.{mod-eq-of-lt}
 use lib.Dec.{T}
-use lib.ListN.{length, take, getD, set, length-map, List·getD-eq-default}
-use lib.Seq.{getD-take, length-take-le}
+use lib.ListN.{length, getD, set, length-map, List·getD-eq-default}
 use Rattle.meaning.specs.Octets.{all, pack, packedLength, isHex, digitValue, values}
 use Rattle.meaning.proofs.Packing.{Halves, pack-length, values-halves}
 use Rattle.octets.specs.DigitStrings.{halves, heldOf}
@@ -80,32 +79,44 @@ halves-as-stored l t = ap pack (halves-values l t)
 
 -- ---- The digits that octets hold
 
-module _ (n : ℕ) (l : List ℕ) (few : n ≤ length l) where
-  held-length : length (heldOf n l) ≡ n
-  unfolding heldOf
-  held-length = length-map (take n l) (λ x. x % 16) ∙ length-take-le n l few
+held-length : (n : ℕ) (l : List ℕ) → length (heldOf n l) ≡ n
+unfolding heldOf
+held-length zero l = refl
+held-length (suc n) [] = ap suc (held-length n [])
+held-length (suc n) (x ∷ l) = ap suc (held-length n l)
 
+held-at : (n : ℕ) (l : List ℕ) (k : ℕ) → k < n → getD (heldOf n l) k 15 ≡ getD l k 0 % 16
+unfolding heldOf
+held-at zero l k h = absurd (omega arith)
+held-at (suc n) [] zero h = refl
+held-at (suc n) [] (suc k) h = held-at n [] k (omega arith)
+held-at (suc n) (x ∷ l) zero h = refl
+held-at (suc n) (x ∷ l) (suc k) h = held-at n l k (omega arith)
+
+-- of octets that are there, each modulo 16
+pub held-front : (l r : List ℕ) → heldOf (length l) (l ++ r) ≡ map (λ x. x % 16) l
+unfolding heldOf
+held-front [] r = refl
+held-front (x ∷ l) r = ap (λ (m : List ℕ). (x % 16) ∷ m) (held-front l r)
+
+module _ (n : ℕ) (l : List ℕ) where
   pub held-packed : length (pack (heldOf n l)) ≡ packedLength n
-  held-packed = pack-length (heldOf n l) ∙ ap packedLength held-length
-
-  held-at : (k : ℕ) → k < n → getD (heldOf n l) k 15 ≡ getD l k 0 % 16
-  unfolding heldOf
-  held-at k h = map-at (λ x. x % 16) (take n l) k 0 15 (omega (arith, length-take-le n l few)) ∙ ap (λ (x : ℕ). x % 16) (getD-take n l k 0 h)
+  held-packed = pack-length (heldOf n l) ∙ ap packedLength (held-length n l)
 
   held-past : (k : ℕ) → n ≤ k → getD (heldOf n l) k 15 ≡ 15
-  held-past k h = List·getD-eq-default (heldOf n l) 15 (omega (arith, held-length))
+  held-past k h = List·getD-eq-default (heldOf n l) 15 (omega (arith, held-length n l))
 
   -- a loop over the octets has written the pairs before i, and writes the next, or an odd last digit
   pub two-held : (d out : List ℕ) (i x : ℕ) → Written (pack (heldOf n l)) d out i → i < n / 2 → x ≡ getD l (2 * i) 0 % 16 * 16 + getD l (2 * i + 1) 0 % 16 → Written (pack (heldOf n l)) d (set out i x) (i + 1)
   two-held d out i x w h r =
       written-more (pack (heldOf n l)) d out i x w (omega (arith, held-packed))
       (r
-      ∙ ap₂ (λ (a b : ℕ). a * 16 + b) (sym (held-at (2 * i) (omega arith))) (sym (held-at (2 * i + 1) (omega arith)))
-      ∙ sym (pair-at (heldOf n l) i (omega (arith, held-length))))
+      ∙ ap₂ (λ (a b : ℕ). a * 16 + b) (sym (held-at n l (2 * i) (omega arith))) (sym (held-at n l (2 * i + 1) (omega arith)))
+      ∙ sym (pair-at (heldOf n l) i (omega (arith, held-length n l))))
 
   pub one-held : (d out : List ℕ) (i x : ℕ) → Written (pack (heldOf n l)) d out i → n / 2 ≤ i → 2 * i < n → x ≡ getD l (2 * i) 0 % 16 * 16 + 15 → Written (pack (heldOf n l)) d (set out i x) (i + 1)
   one-held d out i x w h k r =
       written-more (pack (heldOf n l)) d out i x w (omega (arith, held-packed))
       (r
-      ∙ ap₂ (λ (a b : ℕ). a * 16 + b) (sym (held-at (2 * i) k)) (sym (held-past (2 * i + 1) (omega arith)))
-      ∙ sym (pair-at (heldOf n l) i (omega (arith, held-length))))
+      ∙ ap₂ (λ (a b : ℕ). a * 16 + b) (sym (held-at n l (2 * i) k)) (sym (held-past (2 * i + 1) (omega arith)))
+      ∙ sym (pair-at (heldOf n l) i (omega (arith, held-length n l))))

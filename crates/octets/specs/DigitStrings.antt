@@ -1,14 +1,13 @@
 -- "A digit string is at most fifteen digits together with their count": read from a text, and packed two to an octet.
 -- Assumes nothing.
-use Prim.Native.Nat.{ℕ, _%_, min}
-use mathlib.Core.Bool.{Bool, true, false, cond, _&&_}
-use mathlib.Core.List.{List, [], map}
+use Prim.Native.Nat.{ℕ, zero, suc, _%_, min}
+use mathlib.Core.Bool.{Bool, cond, _&&_}
+use mathlib.Core.List.{List, [], _∷_, map}
 use lib.Dec.{eqb}
-use lib.ListN.{length, take, replicate}
+use lib.ListN.{length, replicate}
 use Rattle.meaning.specs.Octets.{between, all, same, isDigit, digitValue, values, text, pack, unpack, packedLength}
 use Rattle.meaning.specs.Answers.{over}
 use Rattle.octets.specs.declared.Digits.{Digits}
-use Rattle.octets.specs.declared.Got.{Got}
 
 -- what the octets of a text stand for as digits, each taken modulo 16
 unfoldable pub halves : List ℕ → List ℕ
@@ -22,20 +21,15 @@ padded w l = over l (replicate w 0)
 unfoldable pub digitsOf : List ℕ → Digits
 digitsOf l = record { octets = padded 15 l; len = length l }
 
--- what is got of a text that is no digit string
-unfoldable pub noDigits : Got
-noDigits = record { ok = false; digits = digitsOf [] }
-
 -- the digits of a text of 1 to 15 decimal digits; none of any other
-unfoldable pub gotOf : List ℕ → Got
-gotOf l =
-    cond (between 1 15 (length l) && all isDigit l)
-    (record { ok = true; digits = digitsOf (values l) })
-    noDigits
+unfoldable pub gotOf : List ℕ → Digits
+gotOf l = cond (between 1 15 (length l) && all isDigit l) (digitsOf (values l)) (digitsOf [])
 
--- the first n digits that octets hold, each taken modulo 16
+-- the first n digits that octets hold, each taken modulo 16; zeros where they hold fewer
 unfoldable pub heldOf : (n : ℕ) → List ℕ → List ℕ
-heldOf n l = map (λ x. x % 16) (take n l)
+heldOf zero l = []
+heldOf (suc n) [] = 0 ∷ heldOf n []
+heldOf (suc n) (x ∷ l) = (x % 16) ∷ heldOf n l
 
 -- digits two to an octet; fifteen at most, whatever the count says
 unfoldable pub packedOf : Digits → List ℕ

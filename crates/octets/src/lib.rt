@@ -3,23 +3,18 @@
 ghost use mathlib.Core.Path.{_≡_};
 ghost use Prim.Native.Nat.{_+_, _*_, _/_, _%_, _<_, _≤_, min};
 ghost use mathlib.Core.Bool.{_&&_};
+ghost use mathlib.Core.List.{[]};
 ghost use lib.Dec.{eqb, leb};
 ghost use lib.ListN.{length, getD};
 ghost use Rattle.meaning.specs.Octets.{all, numberOf, octetsOf, pack, unpack, packedLength, isDigit, isHex, digitValue, digitText, text};
 ghost use Rattle.meaning.specs.Answers.{over};
 ghost use Rattle.octets.specs.Parts.{partOf, Numbered, Written, laidAt, Laid};
-ghost use Rattle.octets.specs.DigitStrings.{halves, heldOf, noDigits, gotOf, packedOf, packedDigits};
+ghost use Rattle.octets.specs.DigitStrings.{halves, digitsOf, heldOf, gotOf, packedOf, packedDigits};
 
 // "at most fifteen digits together with their count": the digits' values, with zeros behind them.
 pub struct Digits {
     pub octets: [u8; 15],
     pub len: usize,
-}
-
-// The digits of a text, where it is a digit string.
-pub struct Got {
-    pub ok: bool,
-    pub digits: Digits,
 }
 
 // An octet as a number.
@@ -295,43 +290,36 @@ pub fn all_hex(s: &[u8]) -> bool
     ok
 }
 
-// What is got of a text that is no digit string.
-fn none() -> Got
-    ensures { λ r. ⌜ r ≡ noDigits ⌝ }
+// No digits.
+fn none() -> Digits
+    ensures { λ r. ⌜ r ≡ digitsOf [] ⌝ }
 {
-    Got {
-        ok: false,
-        digits: Digits {
-            octets: [0u8; 15],
-            len: 0,
-        },
+    Digits {
+        octets: [0u8; 15],
+        len: 0,
     }
 }
 
 // The digits of a text of 1 to 15 decimal digits; none of any other.
-pub fn digits_of(text: &[u8]) -> Got
+pub fn digits_of(text: &[u8]) -> Digits
     ensures { λ r. ⌜ r ≡ gotOf (now (text .entry)) ⌝ }
 {
-    if text.len() < 1 {
-        return none();
-    }
     if 15 < text.len() {
         return none();
     }
-    let mut octets = [0u8; 15];
+    let mut d = none();
     let mut i: usize = 0;
     while i < text.len() {
         let x = text[i];
         if !is_digit(x) {
             return none();
         }
-        octets[i] = half_of(x);
+        let half = half_of(x);
+        d.octets[i] = half;
         i += 1;
     }
-    Got {
-        ok: true,
-        digits: Digits { octets, len: i },
-    }
+    d.len = i;
+    d
 }
 
 // The octets that `n` halves are packed in: "half the count, rounded up".
@@ -357,40 +345,32 @@ pub fn least(a: usize, b: usize) -> usize
 }
 
 // Lays the first `count` digits two to an octet over the start of `buf`; "an odd last low half is 15".
-fn lay_digits(buf: &mut [u8], octets: [u8; 15], count: usize)
+fn lay_digits(buf: &mut [u8], d: Digits, count: usize)
     requires { ⌜ (count ≤ 15) × (packedLength count ≤ length (now buf)) ⌝ }
-    ensures { λ _. ⌜ now (buf .exit) ≡ over (pack (heldOf count octets)) (now (buf .entry)) ⌝ }
+    ensures { λ _. ⌜ now (buf .exit) ≡ over (pack (heldOf count (d .octets))) (now (buf .entry)) ⌝ }
 {
     let pairs = count / 2;
     let mut i: usize = 0;
     while i < pairs {
-        buf[i] = pair(octets[2 * i] % 16, octets[2 * i + 1] % 16);
+        buf[i] = pair(d.octets[2 * i] % 16, d.octets[2 * i + 1] % 16);
         i += 1;
     }
     if 2 * i < count {
-        buf[i] = pair(octets[2 * i] % 16, 15);
+        buf[i] = pair(d.octets[2 * i] % 16, 15);
     }
 }
 
-// Writes the first `count` digits two to an octet over `buf` from the place `at` on and says true, if they fit; else changes
-// nothing and says false.
-fn put_digits(buf: &mut [u8], at: usize, octets: [u8; 15], count: usize) -> bool
-    requires { ⌜ count ≤ 15 ⌝ }
-    ensures { λ r. ⌜ Laid at (pack (heldOf count octets)) (now (buf .entry)) r (now (buf .exit)) ⌝ }
-{
-    if !fits(buf.len(), at, packed_len(count)) {
-        return false;
-    }
-    lay_digits(&mut buf[at..], octets, count);
-    true
-}
-
-// The same of digits that stand together with their count; fifteen at most, each modulo 16.
+// Writes digits, of fifteen at most, each modulo 16, two to an octet over `buf` from the place `at` on and says true, if they
+// fit; else changes nothing and says false.
 pub fn digits_at(buf: &mut [u8], at: usize, d: Digits) -> bool
     ensures { λ r. ⌜ Laid at (packedOf d) (now (buf .entry)) r (now (buf .exit)) ⌝ }
 {
-    let octets = d.octets;
-    put_digits(buf, at, octets, least(d.len, 15))
+    let count = least(d.len, 15);
+    if !fits(buf.len(), at, packed_len(count)) {
+        return false;
+    }
+    lay_digits(&mut buf[at..], d, count);
+    true
 }
 
 // The octet at `i` of the packed halves of a text, where the text has both of them.

@@ -6,19 +6,19 @@ use mathlib.Core.List.{List, map}
 use Prim.Native.Nat.{ℕ, _+_, _-_, _/_, _%_, _<_, _≤_}
 use native.Mathlib.Omega.{arith}
 use lib.Dec.{T, eqb, leb, eqb→eq, leb→le}
-use borrow.Author.Tests.{eq-eqb, le-leb}
+use borrow.Author.Tests.{eq-eqb}
 use lib.ListN.{length, getD}
-use Rattle.meaning.specs.Octets.{all, isHex, numberOf, digitValue, packedLength}
+use Rattle.meaning.specs.Octets.{all, isDigit, isHex, numberOf, digitValue, packedLength}
 use Rattle.meaning.specs.Framing.{isPlain}
 use Rattle.meaning.specs.Shapes.{Shape, number, address, digits, hexadecimal, qos, shapeOf, meets}
 use Rattle.meaning.specs.Sheet.{formOf, form, count, stored}
 use Rattle.meaning.proofs.Tests.{parts, passes}
 use Rattle.meaning.proofs.Forms.{raw-not-4}
-use Rattle.octets.specs.declared.Got.{Got}
+use Rattle.octets.specs.declared.Digits.{Digits}
 use Rattle.octets.specs.Parts.{partOf}
 use Rattle.octets.specs.DigitStrings.{gotOf}
 use Rattle.octets.proofs.Parts.{part-rest}
-use Rattle.octets.proofs.DigitStrings.{got-ok, got-digits}
+use Rattle.octets.proofs.DigitStrings.{got-digits, got-some, got-none}
 use Rattle.area.specs.declared.Part.{Part}
 use Rattle.shape.specs.declared.Value.{Value}
 use Rattle.shape.specs.declared.Value.the-variants as is
@@ -76,23 +76,34 @@ module _ (n : ℕ) (v : List ℕ) (p : Part) where
 
   -- ---- Digits
 
-  module _ (a b : ℕ) (shape-is : shapeOf n ≡ digits a b) (some : a ≤ length v) (few : length v ≤ b) (got : Got) (got-is : got ≡ gotOf v) where
-    -- what is got of so many octets tells whether they meet the shape
-    got-met : got .ok ≡ meets (digits a b) v
-    got-met =
+  module _ (a b : ℕ) (shape-is : shapeOf n ≡ digits a b) (some : a ≤ length v) (few : length v ≤ b) (got : Digits) (got-is : got ≡ gotOf v) where
+    -- so many octets are 1 to 15
+    low-high : (1 ≤ length v) × (length v ≤ 15)
+    low-high =
         let d : T (fifteen (digits a b)) = subst (λ (s : Shape). T (fifteen s)) shape-is (at-most-fifteen n) in
         let h = parts (leb 1 a) (leb b 15) d in
-        let low : 1 ≤ length v = omega (arith, leb→le 1 a (h .0)) in
-        let high : length v ≤ 15 = omega (arith, leb→le b 15 (h .1)) in
-        ap (λ (g : Got). g .ok) got-is ∙ got-ok v ∙ rw (le-leb 1 (length v) low, le-leb (length v) 15 high) (digits-all v a b some few)
+        (omega (arith, leb→le 1 a (h .0)), omega (arith, leb→le b 15 (h .1)))
 
-    pub digits-missed : got .ok ≡ false → rawItem n (length v) p ≡ itemFor n v p
-    digits-missed e = missed (digits a b) shape-is (sym got-met ∙ e)
+    -- how many digits are got of them tells whether they meet the shape
+    got-met : (met : Bool) → all isDigit v ≡ met → got .len ≡ cond met (length v) 0
+    got-met true e = rw got-is (got-some v (low-high .0) (low-high .1) e)
+    got-met false e = rw got-is (got-none v e)
 
-    pub item-digits : got .ok ≡ true → _≡_ {A = Item} (record { number = n; form = 4; count = length v; value = is.Digits; digits = got .digits }) (itemFor n v p)
+    none-misses : (met : Bool) → all isDigit v ≡ met → got .len ≡ 0 → met ≡ false
+    none-misses true e z = absurd (omega (arith, got-met true e, low-high .0))
+    none-misses false e z = refl
+
+    some-meet : (met : Bool) → all isDigit v ≡ met → (got .len ≡ 0 → ⊥) → met ≡ true
+    some-meet true e z = refl
+    some-meet false e z = absurd (z (got-met false e))
+
+    pub digits-missed : got .len ≡ 0 → rawItem n (length v) p ≡ itemFor n v p
+    digits-missed z = missed (digits a b) shape-is (sym (digits-all v a b some few) ∙ none-misses _ refl z)
+
+    pub item-digits : (got .len ≡ 0 → ⊥) → _≡_ {A = Item} (record { number = n; form = 4; count = length v; value = is.Digits; digits = got }) (itemFor n v p)
     unfolding itemFor count valueBy digitsBy formOf
-    item-digits e =
-        let f : form n v ≡ 4 = form-own n v (digits a b) shape-is (omega arith) (sym got-met ∙ e) in
+    item-digits z =
+        let f : form n v ≡ 4 = form-own n v (digits a b) shape-is (omega arith) (sym (digits-all v a b some few) ∙ some-meet _ refl z) in
         let s = formed-as n v 4 f in
         rw (f, got-is, got-digits v (s .some) (s .few) (s .decimal))
 

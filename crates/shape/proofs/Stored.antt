@@ -40,7 +40,7 @@ module _ (v s : List ℕ) where
 
   digits-stored : Digital v s → packedOf (digitsOf (values v)) ≡ s
   digits-stored w =
-      let e : gotOf v .digits ≡ digitsOf (values v) = rw (got-digits v (w .some) (w .few) (w .decimal)) in
+      let e : gotOf v ≡ digitsOf (values v) = rw (got-digits v (w .some) (w .few) (w .decimal)) in
       rw (← e) (packed-as-stored v (w .some) (w .few) (w .decimal)) ∙ sym (w .packed)
 
   profile-stored : Octets s → Profile v s → ((digitValue (getD v 0 0) * 10 + digitValue (getD v 1 0)) % 256) ∷ pack (halves (drop 3 v)) ≡ s

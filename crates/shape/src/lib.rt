@@ -285,11 +285,10 @@ fn digits_item(number: u16, v: &[u8], value: area::Part, least: usize, most: usi
     if most < v.len() {
         return raw_item(number, v.len(), value);
     }
-    let got = octets::digits_of(v);
-    if !got.ok {
+    let digits = octets::digits_of(v);
+    if digits.len == 0 {
         return raw_item(number, v.len(), value);
     }
-    let digits = got.digits;
     Item {
         number,
         form: 4,

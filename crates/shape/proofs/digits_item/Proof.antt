@@ -1,6 +1,5 @@
 -- Too few, too many, no digits, or digits. Assumes nothing.
 use borrow.Author.Needs.{needs}
-use borrow.Author.Tests.{not-true, not-false}
 use mathlib.Core.Path.{sym, _∙_}
 use native.Mathlib.Omega.{arith}
 use Rattle.meaning.specs.Shapes.{digits}
@@ -28,10 +27,10 @@ raw-item-requires-3 : tie.Need-raw-item-requires-3
 raw-item-requires-3 c κs = search needs
 
 returns-3 : tie.Need-returns-3
-returns-3 c = c .raw-item3 .ensures ∙ digits-missed _ _ _ _ _ (c .before .before .before .before .before .before .before .pre) (omega arith) (omega arith) _ (c .before .before .before .digits-of .ensures) (not-true _ (c .before .if3 .taken))
+returns-3 c = c .raw-item3 .ensures ∙ digits-missed _ _ _ _ _ (c .before .before .before .before .before .before .before .pre) (omega arith) (omega arith) _ (c .before .before .before .digits-of .ensures) (c .before .if3 .taken)
 
 returns-4 : tie.Need-returns-4
-returns-4 c = item-digits _ _ _ _ _ (c .before .before .before .before .before .before .before .pre) (omega arith) (omega arith) _ (c .before .before .before .digits-of .ensures) (not-false _ (c .before .if3 .left))
+returns-4 c = item-digits _ _ _ _ _ (c .before .before .before .before .before .before .pre) (omega arith) (omega arith) _ (c .before .before .digits-of .ensures) (c .if3 .left)
 
 pub digits-item-spec : {M : Type 1} → statement M
 digits-item-spec =
