@@ -121,12 +121,12 @@ module _ (kind flags : ℕ) (area : List ℕ) (fit : arrivalOf kind flags (lengt
           record { says = rw (counted, accepted, t); holds = rw (accepted, t) same }
 
       -- the empty list
-      pub list-empty : needed ≡ 0 → Checked kind flags area d (is.List needed) (p ++ d)
+      pub list-empty : needed ≡ 0 → Checked kind flags area d (is.List 0) (p ++ d)
       unfolding checkAnswer areaOrder after
       list-empty e =
           let none-broken : listOf kind flags area ≡ [] = no-room (listOf kind flags area) (sym counted ∙ e) in
           let t = le-ltb (length d) (length (listOf kind flags area)) (omega (arith, counted)) in
-          record { says = rw (counted, accepted, t); holds = rw (accepted, t, none-broken) (same ∙ sym (over-none d)) }
+          record { says = rw (accepted, t, none-broken); holds = rw (accepted, t, none-broken) (same ∙ sym (over-none d)) }
 
       -- in a well framed area a pass lays the list
       second-laid : (said : Tally) (b held : List ℕ) → PassSays kind flags area b said held → length (listOf kind flags area) ≤ length b → held ≡ over (listOf kind flags area) b

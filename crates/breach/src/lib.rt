@@ -456,7 +456,7 @@ fn lay(area: &[u8], kind: u32, flags: u32, list: &mut [u32]) -> Checking
             }
             // Most areas break nothing: then there is nothing to lay.
             if needed == 0 {
-                return Checking::List(needed);
+                return Checking::List(0);
             }
             pass(area, codes, kind, flags, list);
             return Checking::List(needed);
