@@ -1,22 +1,18 @@
 -- What the tests of an item say, one answer at a time. Assumes nothing.
 use mathlib.Core.Path.{_≡_, refl, sym, ap, _∙_}
 use mathlib.Core.Bool.{Bool, true, false, cond, not, _&&_}
-use mathlib.Core.List.{List, map}
-use Prim.Native.Nat.{ℕ, _+_, _-_, _/_, _<_, _≤_}
+use mathlib.Core.List.{List}
+use Prim.Native.Nat.{ℕ, _+_, _-_, _<_, _≤_}
 use native.Mathlib.Omega.{arith}
 use lib.Dec.{eqb, leb, ltb}
 use borrow.Author.Tests.{lt-ltb, le-ltb, le-leb, lt-leb, eq-eqb, ne-eqb, eqb-true, eqb-false, ltb-true, ltb-false}
 use lib.ListN.{length}
 use Rattle.meaning.specs.Octets.{numberOf}
 use Rattle.meaning.specs.Framing.{gpp}
-use Rattle.meaning.specs.Shapes.{shapeOf}
-use Rattle.meaning.specs.Sheet.{subOf, formOf, form, carries, numberIn, storedLength}
+use Rattle.meaning.specs.Sheet.{subOf, form, carries, numberIn, storedLength}
 use Rattle.meaning.proofs.Tests.{not-both}
 use Rattle.octets.specs.Parts.{partOf}
-use Rattle.shape.specs.Codes.{codeOf, shapeBy}
-use Rattle.shape.proofs.Codes.{Past, ownForms, no-form}
-use Rattle.shape.proofs.Formed.{own-form, code-shape}
-use Rattle.item.specs.Stands.{otherVendor, raw, held, shaped, standsFor}
+use Rattle.item.specs.Stands.{otherVendor, raw, shaped, standsFor}
 use Rattle.item.proofs.Standing.{raw-stands, shaped-stands}
 
 -- ---- Another vendor's
@@ -70,22 +66,6 @@ module _ (n f : ℕ) (v : List ℕ) (r : ℕ) (is : r ≡ form n v) where
   pub raw-form : r ≡ f → carries n v ≡ raw n f v
   unfolding raw
   raw-form e = rw (eq-eqb (form n v) f (sym is ∙ e))
-
--- ---- Forms 2 to 7
-
-module _ (n f c : ℕ) (st : List ℕ) (code : ℕ) (is : code ≡ codeOf (shapeOf n)) where
-  pub shaped-other : (code / 10 ≡ f → ⊥) → false ≡ shaped n f c st
-  unfolding shaped
-  shaped-other h = rw (ne-eqb (formOf (shapeOf n)) f (λ e. h (own-form n code is ∙ e)))
-
-  pub shaped-held : code / 10 ≡ f → held (shapeBy code) c st ≡ shaped n f c st
-  unfolding shaped
-  shaped-held e = rw (eq-eqb (formOf (shapeOf n)) f (sym (own-form n code is) ∙ e), code-shape n code is)
-
--- a code that no shape with a form of its own has holds nothing
-pub none-held : (code c : ℕ) (st : List ℕ) → Past (Unit {0}) code (map codeOf ownForms) → false ≡ held (shapeBy code) c st
-unfolding held
-none-held code c st p = rw (no-form code p)
 
 -- ---- The item
 

@@ -2,4 +2,5 @@ pub mod Texts
 pub mod Held
 pub mod Standing
 pub mod Judging
+pub mod Shaping
 pub mod Entering

@@ -3,14 +3,12 @@
 use area::Refusal;
 ghost use mathlib.Core.Path.{_≡_};
 ghost use mathlib.Core.Bool.{_&&_};
-ghost use Prim.Native.Nat.{_/_};
 ghost use lib.Dec.{eqb, leb};
 ghost use lib.ListN.{length, getD};
 ghost use Rattle.meaning.specs.Octets.{packedLength};
-ghost use Rattle.meaning.specs.Shapes.{digits, qos};
+ghost use Rattle.meaning.specs.Shapes.{digits, qos, shapeOf};
 ghost use Rattle.meaning.specs.Sheet.{numberIn};
 ghost use Rattle.meaning.specs.Sheet as meant;
-ghost use Rattle.shape.specs.Codes.{shapeBy};
 ghost use Rattle.item.specs.Stands.{otherVendor, held, shaped, raw, standsFor};
 ghost use Rattle.item.specs.Answers.{enteredAt, enteredOf};
 
@@ -122,21 +120,46 @@ fn holds_one(stored: &[u8], most: u8) -> bool
     stored[0] <= most
 }
 
-// Whether octets are what the shape of a code stores of some value; `shape::code_of` says which code is which.
-fn holds(code: u8, count: u8, stored: &[u8]) -> bool
-    requires { ⌜ length (now stored) ≡ meant.storedLength (code / 10) count ⌝ }
-    ensures { λ r. ⌜ r ≡ held (shapeBy code) count (now (stored .entry)) ⌝ }
+// Whether a number's own form is 2, a number.
+fn is_number(number: u16) -> bool
+    ensures { λ r. ⌜ r ≡ eqb (meant.formOf (shapeOf number)) 2 ⌝ }
 {
-    match code {
-        20 => count == 4,
-        30 => count == 4,
-        40 => holds_digits(stored, count, 1, 15),
-        41 => holds_digits(stored, count, 5, 6),
-        50 => count == 8,
-        60 => holds_qos(stored),
-        70 => holds_one(stored, 15),
-        71 => count == 1,
-        72 => holds_one(stored, 9),
+    match number {
+        6 | 7 | 40 | 41 | 42 | 43 | 45 | 46 | 47 | 48 | 49 | 61 | 258 | 259 => true,
+        _ => false,
+    }
+}
+
+// Whether a number's own form is 3, an address.
+fn is_address(number: u16) -> bool
+    ensures { λ r. ⌜ r ≡ eqb (meant.formOf (shapeOf number)) 3 ⌝ }
+{
+    match number {
+        4 | 8 | 9 | 260 | 262 | 263 => true,
+        _ => false,
+    }
+}
+
+// Whether a number's own form is 4, digits, and octets are so many of them as it takes.
+fn are_digits(number: u16, count: u8, stored: &[u8]) -> bool
+    requires { ⌜ length (now stored) ≡ packedLength count ⌝ }
+    ensures { λ r. ⌜ r ≡ shaped number 4 count (now (stored .entry)) ⌝ }
+{
+    match number {
+        31 | 257 => holds_digits(stored, count, 1, 15),
+        264 | 265 | 274 => holds_digits(stored, count, 5, 6),
+        _ => false,
+    }
+}
+
+// Whether a number's own form is 7, one octet, and octets are one that it takes.
+fn is_octet(number: u16, stored: &[u8]) -> bool
+    ensures { λ r. ⌜ r ≡ shaped number 7 (length (now (stored .entry))) (now (stored .entry)) ⌝ }
+{
+    match number {
+        266 => holds_one(stored, 15),
+        267 => stored.len() == 1,
+        268 => holds_one(stored, 9),
         _ => false,
     }
 }
@@ -146,11 +169,15 @@ fn is_shaped(number: u16, form: u8, count: u8, stored: &[u8]) -> bool
     requires { ⌜ length (now stored) ≡ meant.storedLength form count ⌝ }
     ensures { λ r. ⌜ r ≡ shaped number form count (now (stored .entry)) ⌝ }
 {
-    let code = shape::code_of(number);
-    if code / 10 != form {
-        return false;
+    match form {
+        2 => is_number(number) & (count == 4),
+        3 => is_address(number) & (count == 4),
+        4 => are_digits(number, count, stored),
+        5 => (number == 44) & (count == 8),
+        6 => (number == 261) & holds_qos(stored),
+        7 => is_octet(number, stored),
+        _ => false,
     }
-    holds(code, count, stored)
 }
 
 // Whether some readable attribute gives the item, whose head and stored octets are there.

@@ -1,19 +1,19 @@
--- The code of a number that the lines of document 01 do not name is 0. Assumes nothing.
-use mathlib.Core.Path.{_≡_, refl, subst}
+-- The code of a number that the lines of document 01 do not name is 0, and a test of all numbers' shapes. Assumes nothing.
+use mathlib.Core.Path.{_≡_, refl, sym, ap, subst, _∙_}
 use mathlib.Core.Bool.{Bool, true, false, _&&_, _||_, and-false}
 use mathlib.Core.List.{List, [], _∷_}
-use Prim.Native.Nat.{ℕ, zero, suc, _<_, _≤_}
+use Prim.Native.Nat.{ℕ, zero, suc, _+_, _-_, _<_, _≤_}
 use native.Mathlib.Omega.{arith}
 use lib.Dec.{T, eqb, ltb, leb, eqb→eq}
 use borrow.Author.Tests.{ne-eqb, lt-leb, ltb-true, ltb-false}
 use Rattle.meaning.specs.Octets.{isIn}
-use Rattle.meaning.specs.Shapes.{Shape, plainShape, gppShape}
+use Rattle.meaning.specs.Shapes.{Shape, free, plainShape, gppShape, shapeOf}
 use Rattle.meaning.proofs.Tests.{parts}
-use Rattle.shape.specs.Codes.{codeOf}
-use Rattle.shape.proofs.Codes.{Past, past-before}
+use Rattle.shape.specs.Codes.{codeOf, shapeBy}
+use Rattle.shape.proofs.Codes.{Past, past-before, shape-back, code-3gpp}
 
 -- a number behind the arms of a match is in none of them
-past-not-in : (before : Type 0) (n : ℕ) (l : List ℕ) → Past before n l → isIn n l ≡ false
+pub past-not-in : (before : Type 0) (n : ℕ) (l : List ℕ) → Past before n l → isIn n l ≡ false
 past-not-in before n [] p = refl
 past-not-in before n (x ∷ l) p =
     rw (ne-eqb n x (past-before (before × (n ≡ x → ⊥)) n l p .1))
@@ -57,9 +57,37 @@ plain-other = other-code plainShape plainNumbers 62 tt above
 abbrev pub gppNumbers : List ℕ
 gppNumbers = 1 ∷ 2 ∷ 3 ∷ 4 ∷ 5 ∷ 6 ∷ 7 ∷ 8 ∷ 9 ∷ 10 ∷ 11 ∷ 12 ∷ 18 ∷ []
 
+-- from 19 on there is none
+gpp-above : (s : ℕ) → 19 ≤ s → codeOf (gppShape s) ≡ 0
+unfolding gppShape codeOf
+gpp-above s h = rw (ne-eqb s 1 (λ e. omega (arith, h, e)), ne-eqb s 2 (λ e. omega (arith, h, e)), ne-eqb s 3 (λ e. omega (arith, h, e)), ne-eqb s 4 (λ e. omega (arith, h, e)), ne-eqb s 6 (λ e. omega (arith, h, e)), ne-eqb s 7 (λ e. omega (arith, h, e)), ne-eqb s 5 (λ e. omega (arith, h, e)), ne-eqb s 8 (λ e. omega (arith, h, e)), ne-eqb s 9 (λ e. omega (arith, h, e)), ne-eqb s 18 (λ e. omega (arith, h, e)), ne-eqb s 10 (λ e. omega (arith, h, e)), ne-eqb s 11 (λ e. omega (arith, h, e)), ne-eqb s 12 (λ e. omega (arith, h, e)))
+
 pub gpp-other : (s : ℕ) → Past (Unit {0}) s gppNumbers → codeOf (gppShape s) ≡ 0
 unfolding gppShape codeOf
-gpp-other = other-code gppShape gppNumbers 19 tt above
-  where
-    above : (s : ℕ) → 19 ≤ s → codeOf (gppShape s) ≡ 0
-    above s h = rw (ne-eqb s 1 (λ e. omega (arith, h, e)), ne-eqb s 2 (λ e. omega (arith, h, e)), ne-eqb s 3 (λ e. omega (arith, h, e)), ne-eqb s 4 (λ e. omega (arith, h, e)), ne-eqb s 6 (λ e. omega (arith, h, e)), ne-eqb s 7 (λ e. omega (arith, h, e)), ne-eqb s 5 (λ e. omega (arith, h, e)), ne-eqb s 8 (λ e. omega (arith, h, e)), ne-eqb s 9 (λ e. omega (arith, h, e)), ne-eqb s 18 (λ e. omega (arith, h, e)), ne-eqb s 10 (λ e. omega (arith, h, e)), ne-eqb s 11 (λ e. omega (arith, h, e)), ne-eqb s 12 (λ e. omega (arith, h, e)))
+gpp-other = other-code gppShape gppNumbers 19 tt gpp-above
+
+-- ---- A test of the shapes of numbers
+
+-- no carried number from 275 on has a shape
+no-shape-above : (n : ℕ) → 275 ≤ n → shapeOf n ≡ free
+unfolding codeOf shapeBy
+no-shape-above n h = sym (shape-back n) ∙ ap shapeBy (code-3gpp n (omega arith) ∙ gpp-above (n - 256) (omega arith))
+
+-- a test passes at the shape of each number from one to below another, but for some numbers
+abbrev pub passesIn : (Shape → Bool) → (but : List ℕ) (from to : ℕ) → Bool
+passesIn p but from to = below (λ k. isIn (from + k) but || p (shapeOf (from + k))) (to - from)
+
+module _ (p : Shape → Bool) (but : List ℕ) (from : ℕ) where
+  pub passes-in : (to : ℕ) → T (passesIn p but from to) → (n : ℕ) → isIn n but ≡ false → from ≤ n → n < to → T (p (shapeOf n))
+  passes-in to t n out low high =
+      let e : from + (n - from) ≡ n = omega arith in
+      subst (λ (b : Bool). T (b || p (shapeOf n))) out
+      (subst (λ (k : ℕ). T (isIn k but || p (shapeOf k))) e (below-at (λ (k : ℕ). isIn (from + k) but || p (shapeOf (from + k))) (to - from) (n - from) t (omega arith)))
+
+  -- and so from a number on
+  pub passes-from : T (p free) → T (passesIn p but from 275) → (n : ℕ) → isIn n but ≡ false → from ≤ n → T (p (shapeOf n))
+  passes-from f t n out low = go (ltb n 275) refl
+    where
+      go : (less : Bool) → ltb n 275 ≡ less → T (p (shapeOf n))
+      go true e = passes-in 275 t n out low (ltb-true n 275 e)
+      go false e = subst (λ (s : Shape). T (p s)) (sym (no-shape-above n (ltb-false n 275 e))) f

@@ -69,7 +69,7 @@ form-in-code free = refl
 -- ---- The shapes of all codes
 
 -- a test passes at each of some shapes
-abbrev each : (Shape → Bool) → List Shape → Bool
+abbrev pub each : (Shape → Bool) → List Shape → Bool
 each p [] = true
 each p (s ∷ l) = p s && each p l
 
@@ -81,6 +81,11 @@ among-passes p (s ∷ l) code f t =
     go : (b : Bool) (other : Shape) → T (p s) → T (p other) → T (p (cond b s other))
     go true other h g = h
     go false other h g = g
+
+-- a test that passes at each shape passes at the shape of every number
+pub every-shape : (p : Shape → Bool) → T (p free) → T (each p shapes) → (n : ℕ) → T (p (shapeOf n))
+unfolding shapeBy
+every-shape p f t n = subst (λ (s : Shape). T (p s)) (shape-back n) (among-passes p shapes (codeOf (shapeOf n)) f t)
 
 -- a shape of digits asks for 1 to 15
 abbrev pub fifteen : Shape → Bool
@@ -99,8 +104,7 @@ fifteen free = true
 
 -- "A digit string is at most fifteen digits": so it is for every number.
 pub at-most-fifteen : (n : ℕ) → T (fifteen (shapeOf n))
-unfolding shapeBy
-at-most-fifteen n = subst (λ (s : Shape). T (fifteen s)) (shape-back n) (among-passes fifteen shapes (codeOf (shapeOf n)) tt tt)
+at-most-fifteen = every-shape fifteen tt tt
 
 -- a code behind the arms of a match: it is none of theirs, nor any of what came before
 abbrev pub Past : (before : Type 0) (code : ℕ) → List ℕ → Type 0
