@@ -39,7 +39,7 @@ module _ (c : ℕ) (st : List ℕ) (n : length st ≡ c) where
 -- ---- Digits
 
 module _ (a b c : ℕ) (st : List ℕ) (n : length st ≡ packedLength c) (o : Octets st) where
-  digits-held : held (digits a b) c st ≡ between a b c && packedDigits c st
+  pub digits-held : held (digits a b) c st ≡ between a b c && packedDigits c st
   unfolding held formOf meets valueOf storedOf packedDigits
   digits-held =
       rw (text-length (unpack c st), unpack-length c st n, values-text (unpack c st) (unpack-halves c st o), eq-eqb (length st) (packedLength c) n)

@@ -1,17 +1,18 @@
 -- The way back from packed digits: the text of the halves, and when octets are so many decimal digits. Assumes nothing.
 use mathlib.Core.Path.{_≡_, refl, sym, ap, ap₂, _∙_}
 use mathlib.Core.Bool.{Bool, true, false, _&&_, and-true, and-false}
-use mathlib.Core.List.{List, [], _∷_}
+use mathlib.Core.List.{List, [], _∷_, map}
 use Prim.Native.Nat.{ℕ, zero, suc, _+_, _*_, _-_, _/_, _%_, _<_, _≤_, min}
 use native.Mathlib.Numerals.{add-one}
 use native.Mathlib.Omega.{arith}
 use borrow.Author.Tests.{le-leb, lt-leb, leb-true, leb-false, eq-eqb, ne-eqb, eqb-true, eqb-false}
-use lib.Dec.{leb, eqb}
+use lib.Dec.{T, leb, eqb}
 use lib.ListN.{length, drop, getD, set, length-map, drop-of-length-le}
 use lib.Seq.{drop-cons}
 use Rattle.meaning.specs.Octets.{all, same, pack, unpack, packedLength, isDigit, digitText, text}
 use Rattle.meaning.specs.Answers.{over}
-use Rattle.octets.specs.DigitStrings.{packedDigits}
+use Rattle.meaning.proofs.Tests.{parts, passes, is-true}
+use Rattle.octets.specs.DigitStrings.{packedDigits, decimals}
 use Rattle.octets.specs.Parts.{Written}
 use Rattle.octets.proofs.Overs.{written-more}
 use Rattle.octets.proofs.Halves.{map-at}
@@ -58,29 +59,39 @@ unpack-low (suc (suc c)) (x ∷ s) (suc i) h k =
     let e : 2 * suc i + 1 ≡ suc (suc (2 * i + 1)) = omega arith in
     rw e (unpack-low c s i (omega arith) (omega arith))
 
+-- each half is written by itself, as what f makes of it
+module _ (f : ℕ → ℕ) (c : ℕ) (s : List ℕ) where
+  pub each-length : length (map f (unpack c s)) ≡ min c (2 * length s)
+  each-length = length-map (unpack c s) f ∙ unpack-size c s
+
+  -- what was laid over a buffer, said of all the halves that were asked for
+  pub each-over : (n : ℕ) (d p : List ℕ) → n ≡ min c (2 * length s) → p ≡ over (map f (unpack n s)) d → p ≡ over (map f (unpack c s)) d
+  each-over n d p e q = q ∙ ap (λ (l : List ℕ). over (map f l) d) (ap (λ (m : ℕ). unpack m s) e ∙ unpack-least c s)
+
+  -- a loop over the octets has written the halves before i, and writes the next
+  module _ (d out : List ℕ) (i : ℕ) (w : Written (map f (unpack c s)) d out (2 * i)) (here : i < length s) where
+    pub high-written : (y : ℕ) → 2 * i < c → y ≡ f (getD s i 0 / 16) → Written (map f (unpack c s)) d (set out (2 * i) y) (2 * i + 1)
+    high-written y h e =
+        let k : 2 * i < length (unpack c s) = omega (arith, unpack-size c s) in
+        written-more _ _ _ _ _ w (omega (arith, each-length)) (e ∙ ap f (sym (unpack-high c s i h here)) ∙ sym (map-at f (unpack c s) (2 * i) 0 0 k))
+
+    pub two-written : (y z : ℕ) → 2 * i + 1 < c → y ≡ f (getD s i 0 / 16) → z ≡ f (getD s i 0 % 16) → Written (map f (unpack c s)) d (set (set out (2 * i) y) (2 * i + 1) z) (2 * (i + 1))
+    two-written y z h e g =
+        let k : 2 * i + 1 < length (unpack c s) = omega (arith, unpack-size c s) in
+        let next : 2 * (i + 1) ≡ 2 * i + 1 + 1 = omega arith in
+        rw next (written-more _ _ _ _ _ (high-written y (omega arith) e) (omega (arith, each-length)) (g ∙ ap f (sym (unpack-low c s i h here)) ∙ sym (map-at f (unpack c s) (2 * i + 1) 0 0 k)))
+
 pub unpacked-length : (c : ℕ) (s : List ℕ) → length (text (unpack c s)) ≡ min c (2 * length s)
 unfolding text
-unpacked-length c s = length-map (unpack c s) digitText ∙ unpack-size c s
+unpacked-length = each-length digitText
 
--- what was laid over a buffer, said of all the halves that were asked for
-pub unpacked-over : (n c : ℕ) (s d p : List ℕ) → n ≡ min c (2 * length s) → p ≡ over (text (unpack n s)) d → p ≡ over (text (unpack c s)) d
-unpacked-over n c s d p e q = q ∙ ap (λ (l : List ℕ). over (text l) d) (ap (λ (m : ℕ). unpack m s) e ∙ unpack-least c s)
+pub decimals-length : (c : ℕ) (s : List ℕ) → length (decimals (unpack c s)) ≡ min c (2 * length s)
+unfolding decimals
+decimals-length = each-length (λ h. h + 48)
 
--- a loop over the octets has written the text before i, and writes the next
-module _ (c : ℕ) (s d out : List ℕ) (i : ℕ) (w : Written (text (unpack c s)) d out (2 * i)) (here : i < length s) (octet : getD s i 0 < 256) where
-  pub high-written : (y : ℕ) → 2 * i < c → y ≡ digitText (getD s i 0 / 16 % 16) → Written (text (unpack c s)) d (set out (2 * i) y) (2 * i + 1)
-  unfolding text
-  high-written y h e =
-      let k : 2 * i < length (unpack c s) = omega (arith, unpack-size c s) in
-      let half : getD s i 0 / 16 % 16 ≡ getD (unpack c s) (2 * i) 0 = omega (arith, unpack-high c s i h here) in
-      written-more _ _ _ _ _ w (omega (arith, unpacked-length c s)) (e ∙ ap digitText half ∙ sym (map-at digitText (unpack c s) (2 * i) 0 0 k))
-
-  pub two-written : (y z : ℕ) → 2 * i + 1 < c → y ≡ digitText (getD s i 0 / 16 % 16) → z ≡ digitText (getD s i 0 % 16) → Written (text (unpack c s)) d (set (set out (2 * i) y) (2 * i + 1) z) (2 * (i + 1))
-  unfolding text
-  two-written y z h e f =
-      let k : 2 * i + 1 < length (unpack c s) = omega (arith, unpack-size c s) in
-      let next : 2 * (i + 1) ≡ 2 * i + 1 + 1 = omega arith in
-      rw next (written-more _ _ _ _ _ (high-written y (omega arith) e) (omega (arith, unpacked-length c s)) (f ∙ ap digitText (sym (unpack-low c s i h here)) ∙ sym (map-at digitText (unpack c s) (2 * i + 1) 0 0 k)))
+-- the high half of an octet is a half
+pub high-text : (x : ℕ) → x < 256 → digitText (x / 16 % 16) ≡ digitText (x / 16)
+high-text x h = let e : x / 16 % 16 ≡ x / 16 = omega arith in ap digitText e
 
 -- ---- When octets are so many decimal digits
 
@@ -102,6 +113,22 @@ eqb-both a b c d f g = go (eqb a b) refl
     go : (t : Bool) → eqb a b ≡ t → t ≡ eqb c d
     go true e = sym (eq-eqb c d (f (eqb-true a b e)))
     go false e = sym (ne-eqb c d (λ q. eqb-false a b e (g q)))
+
+-- A text of decimal digits only needs no test for letters.
+decimals-text : (l : List ℕ) → T (all isDigit (text l)) → decimals l ≡ text l
+unfolding text decimals
+decimals-text [] t = refl
+decimals-text (x ∷ l) t =
+    let u = parts (isDigit (digitText x)) (all isDigit (text l)) t in
+    let low : leb x 9 ≡ true = sym (decimal-text x) ∙ is-true (isDigit (digitText x)) (u .0) in
+    rw (low, decimals-text l (u .1))
+
+-- So it is with digits that are packed.
+pub packed-decimals : (c : ℕ) (s : List ℕ) → packedDigits c s ≡ true → decimals (unpack c s) ≡ text (unpack c s)
+unfolding packedDigits
+packed-decimals c s e =
+    let u = parts (eqb (length s) (packedLength c)) (all isDigit (text (unpack c s)) && same (pack (unpack c s)) s) (passes _ e) in
+    decimals-text (unpack c s) (parts (all isDigit (text (unpack c s))) (same (pack (unpack c s)) s) (u .1) .0)
 
 -- an octet with two digits decides with the octets behind it
 packed-two : (c x : ℕ) (s : List ℕ) → packedDigits (suc (suc c)) (x ∷ s) ≡ (leb (x / 16) 9 && leb (x % 16) 9) && packedDigits c s

@@ -1,6 +1,6 @@
 -- "A digit string is at most fifteen digits together with their count": read from a text, and packed two to an octet.
 -- Assumes nothing.
-use Prim.Native.Nat.{ℕ, zero, suc, _%_, min}
+use Prim.Native.Nat.{ℕ, zero, suc, _+_, _%_, min}
 use mathlib.Core.Bool.{Bool, cond, _&&_}
 use mathlib.Core.List.{List, [], _∷_, map}
 use lib.Dec.{eqb}
@@ -38,3 +38,7 @@ packedOf d = pack (heldOf (min (d .len) 15) (d .octets))
 -- the way back: octets are so many decimal digits, two to an octet, and nothing else
 unfoldable pub packedDigits : (count : ℕ) → List ℕ → Bool
 packedDigits c s = eqb (length s) (packedLength c) && (all isDigit (text (unpack c s)) && same (pack (unpack c s)) s)
+
+-- numbers below 10, as a text of decimal digits
+unfoldable pub decimals : List ℕ → List ℕ
+decimals = map (λ h. h + 48)

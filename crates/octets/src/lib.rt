@@ -9,7 +9,7 @@ ghost use lib.ListN.{length, getD};
 ghost use Rattle.meaning.specs.Octets.{all, numberOf, octetsOf, pack, unpack, packedLength, isDigit, isHex, digitValue, digitText, text};
 ghost use Rattle.meaning.specs.Answers.{over};
 ghost use Rattle.octets.specs.Parts.{partOf, Numbered, Written, laidAt, Laid};
-ghost use Rattle.octets.specs.DigitStrings.{halves, digitsOf, heldOf, gotOf, packedOf, packedDigits};
+ghost use Rattle.octets.specs.DigitStrings.{halves, digitsOf, heldOf, gotOf, packedOf, packedDigits, decimals};
 
 // "at most fifteen digits together with their count": the digits' values, with zeros behind them.
 pub struct Digits {
@@ -523,5 +523,36 @@ pub fn unpack_at(buf: &mut [u8], at: usize, s: &[u8], count: usize) -> bool
         return false;
     }
     unpack_text(&mut buf[at..], s, n);
+    true
+}
+
+// Writes the first `digits` halves of `s` as decimal digits over the start of `buf`.
+fn lay_decimals(buf: &mut [u8], s: &[u8], digits: usize)
+    requires { ⌜ (digits ≤ length (now buf)) × (digits ≤ 2 * length (now s)) ⌝ }
+    ensures { λ _. ⌜ now (buf .exit) ≡ over (decimals (unpack digits (now (s .entry)))) (now (buf .entry)) ⌝ }
+{
+    let pairs = digits / 2;
+    let mut i: usize = 0;
+    while i < pairs {
+        let x = s[i];
+        buf[2 * i] = x / 16 + 48;
+        buf[2 * i + 1] = x % 16 + 48;
+        i += 1;
+    }
+    if 2 * i < digits {
+        buf[2 * i] = s[i] / 16 + 48;
+    }
+}
+
+// Writes the first `count` halves of `s` as decimal digits over `buf` from the place `at` on and says true, if they fit; else
+// changes nothing and says false.
+pub fn decimals_at(buf: &mut [u8], at: usize, s: &[u8], count: usize) -> bool
+    ensures { λ r. ⌜ Laid at (decimals (unpack count (now (s .entry)))) (now (buf .entry)) r (now (buf .exit)) ⌝ }
+{
+    let digits = half_count(s.len(), count);
+    if !fits(buf.len(), at, digits) {
+        return false;
+    }
+    lay_decimals(&mut buf[at..], s, digits);
     true
 }

@@ -103,6 +103,7 @@ module _ (l : List ℕ) (p : ℕ) (o : Octets l) where
               short = omega (arith, carried-short n v (a .carried), ap length value, size-long);
               counted = octet-at l (p + 3) o;
               four = k .four;
+              packed = k .packed;
               some = λ h g. k .some h;
             };
       }

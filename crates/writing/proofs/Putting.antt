@@ -12,8 +12,10 @@ use Rattle.meaning.specs.Octets.{digitText, text, unpack}
 use Rattle.meaning.specs.Shapes.{shapeOf}
 use Rattle.meaning.specs.Sheet.{attributeOctets, marked}
 use Rattle.octets.specs.Parts.{laidAt}
+use Rattle.octets.specs.DigitStrings.{decimals}
 use Rattle.octets.proofs.Parts.{part-four, part-rest}
 use Rattle.octets.proofs.Overs.{each-laid, laid-two}
+use Rattle.octets.proofs.Unpacking.{packed-decimals}
 use Rattle.shape.specs.Codes.{codeOf}
 use Rattle.item.proofs.Texts.{whole-length}
 use Rattle.area.specs.Answers.{headLength}
@@ -65,9 +67,9 @@ gpp-laid n k at d first out h room f e =
 -- ---- The value by its form
 
 module _ (n f c : ℕ) (st : List ℕ) where
-  pub value-4 : f ≡ 4 → valueAs n f c st ≡ text (unpack c st)
+  pub value-4 : Written n f c st → f ≡ 4 → valueAs n f c st ≡ decimals (unpack c st)
   unfolding valueAs
-  value-4 e = rw e
+  value-4 w e = rw e (sym (packed-decimals c st (w .packed e)))
 
   pub value-5 : f ≡ 5 → valueAs n f c st ≡ text (unpack (2 * length st) st)
   unfolding valueAs

@@ -8,25 +8,27 @@ use native.Mathlib.Omega.{arith}
 use lib.Dec.{T, eqb, leb, ltb, eqb→eq, leb→le}
 use borrow.Author.Tests.{lt-leb, le-leb, ne-eqb, ltb-true, ltb-false}
 use lib.ListN.{length, getD}
-use Rattle.meaning.specs.Octets.{Octets, digitText, text, unpack}
+use Rattle.meaning.specs.Octets.{Octets, between, digitText, text, unpack}
 use Rattle.meaning.specs.Shapes.{Shape, number, address, digits, hexadecimal, qos, hexDigit, anyOctet, decimalDigit, atLeast, exactly, blocks, free, shapeOf}
 use Rattle.meaning.specs.Sheet.{subOf, formOf, valueOf, numberIn, valueIn, storedLength}
 use Rattle.meaning.proofs.Tests.{parts, either, is-true, passes, not-both}
 use Rattle.meaning.proofs.Packing.{unpack-length}
+use Rattle.octets.specs.DigitStrings.{packedDigits}
 use Rattle.shape.specs.Codes.{codeOf}
 use Rattle.shape.proofs.Formed.{one-octet}
 use Rattle.item.specs.Stands.{standsFor, held, shaped}
 use Rattle.item.proofs.Texts.{text-length, whole-length}
-use Rattle.item.proofs.Held.{number-held, address-held, octet-held, hex-digit-held, decimal-digit-held, qos-held, qos-other}
+use Rattle.item.proofs.Held.{number-held, address-held, octet-held, digits-held, hex-digit-held, decimal-digit-held, qos-held, qos-other}
 use Rattle.item.proofs.Standing.{shaped-stands}
 use Rattle.writing.specs.Attributes.{valueLength, profileText, valueAs}
 
--- the value by the form is the value by the shape, of the announced length, stored in four octets in form 2 and 3, and in some where
--- form 6 and 7 ask for one
+-- the value by the form is the value by the shape, of the announced length, stored in four octets in form 2 and 3, in decimal digits
+-- in form 4, and in some octets where form 6 and 7 ask for one
 record Told (s : Shape) (n f c : ℕ) (st : List ℕ) : Type 0 where
   value-is : valueOf s c st ≡ valueAs n f c st
   value-long : length (valueAs n f c st) ≡ valueLength f c
   four : 2 ≤ f → f < 4 → c ≡ 4
+  packed : f ≡ 4 → packedDigits c st ≡ true
   some : 6 ≤ f → 1 ≤ length st
 
 -- the text of a digit
@@ -79,20 +81,20 @@ module _ (n c : ℕ) (st : List ℕ) (o : Octets st) where
   -- by the shape of the number
   told : (s : Shape) → shapeOf n ≡ s → length st ≡ storedLength (formOf s) c → held s c st ≡ true → Told s n (formOf s) c st
   unfolding formOf valueOf valueAs valueLength codeOf
-  told number e l h = record { value-is = refl; value-long = l; four = λ g k. eqb→eq c 4 (passes _ (sym (number-held c st l) ∙ h)); some = λ g. absurd (omega arith) }
-  told address e l h = record { value-is = refl; value-long = l; four = λ g k. eqb→eq c 4 (passes _ (sym (address-held c st l) ∙ h)); some = λ g. absurd (omega arith) }
-  told (digits a b) e l h = record { value-is = refl; value-long = text-length (unpack c st) ∙ unpack-length c st l; four = λ g k. absurd (omega arith); some = λ g. absurd (omega arith) }
-  told hexadecimal e l h = record { value-is = refl; value-long = whole-length st ∙ ap (λ (k : ℕ). 2 * k) l; four = λ g k. absurd (omega arith); some = λ g. absurd (omega arith) }
-  told qos e l h = let p = profile st o (passes _ (qos-counted c st ∙ h)) in record { value-is = qos-value c st (p .1); value-long = qos-long c st (p .0) l; four = λ g k. absurd (omega arith); some = λ g. p .0 }
+  told number e l h = record { value-is = refl; value-long = l; four = λ g k. eqb→eq c 4 (passes _ (sym (number-held c st l) ∙ h)); packed = λ g. absurd (omega arith); some = λ g. absurd (omega arith) }
+  told address e l h = record { value-is = refl; value-long = l; four = λ g k. eqb→eq c 4 (passes _ (sym (address-held c st l) ∙ h)); packed = λ g. absurd (omega arith); some = λ g. absurd (omega arith) }
+  told (digits a b) e l h = record { value-is = refl; value-long = text-length (unpack c st) ∙ unpack-length c st l; four = λ g k. absurd (omega arith); packed = λ g. is-true _ (parts (between a b c) (packedDigits c st) (passes _ (sym (digits-held a b c st l o) ∙ h)) .1); some = λ g. absurd (omega arith) }
+  told hexadecimal e l h = record { value-is = refl; value-long = whole-length st ∙ ap (λ (k : ℕ). 2 * k) l; four = λ g k. absurd (omega arith); packed = λ g. absurd (omega arith); some = λ g. absurd (omega arith) }
+  told qos e l h = let p = profile st o (passes _ (qos-counted c st ∙ h)) in record { value-is = qos-value c st (p .1); value-long = qos-long c st (p .0) l; four = λ g k. absurd (omega arith); packed = λ g. absurd (omega arith); some = λ g. p .0 }
   told hexDigit e l h =
       let p = one-held (held hexDigit c st) 15 st h (hex-digit-held c st) in
-      record { value-is = rw e (one-text st (p .0) (omega (arith, p .1))); value-long = sym (sym l ∙ p .0); four = λ g k. absurd (omega arith); some = λ g. omega (arith, p .0) }
+      record { value-is = rw e (one-text st (p .0) (omega (arith, p .1))); value-long = sym (sym l ∙ p .0); four = λ g k. absurd (omega arith); packed = λ g. absurd (omega arith); some = λ g. omega (arith, p .0) }
   told anyOctet e l h =
       let p : length st ≡ 1 = l ∙ eqb→eq c 1 (passes _ (sym (octet-held c st l) ∙ h)) in
-      record { value-is = rw e (one-octet st p); value-long = sym (sym l ∙ p); four = λ g k. absurd (omega arith); some = λ g. omega arith }
+      record { value-is = rw e (one-octet st p); value-long = sym (sym l ∙ p); four = λ g k. absurd (omega arith); packed = λ g. absurd (omega arith); some = λ g. omega arith }
   told decimalDigit e l h =
       let p = one-held (held decimalDigit c st) 9 st h (decimal-digit-held c st) in
-      record { value-is = rw e (one-text st (p .0) (omega (arith, p .1))); value-long = sym (sym l ∙ p .0); four = λ g k. absurd (omega arith); some = λ g. omega (arith, p .0) }
+      record { value-is = rw e (one-text st (p .0) (omega (arith, p .1))); value-long = sym (sym l ∙ p .0); four = λ g k. absurd (omega arith); packed = λ g. absurd (omega arith); some = λ g. omega (arith, p .0) }
   told (atLeast k) e l h = absurd (formless (atLeast k) c st refl h)
   told (exactly k) e l h = absurd (formless (exactly k) c st refl h)
   told blocks e l h = absurd (formless blocks c st refl h)
@@ -105,6 +107,7 @@ pub record Shown (n f c : ℕ) (st : List ℕ) : Type 0 where
   pub value-is : valueIn n f c st ≡ valueAs n f c st
   pub value-long : length (valueAs n f c st) ≡ valueLength f c
   pub four : 2 ≤ f → f < 4 → c ≡ 4
+  pub packed : f ≡ 4 → packedDigits c st ≡ true
   pub some : 6 ≤ f → 1 ≤ length st
 
 module _ (t s f c : ℕ) (st : List ℕ) (octet : t < 256) (o : Octets st) (long : length st ≡ storedLength f c) (stands : standsFor t s f c st ≡ true) where
@@ -124,6 +127,7 @@ module _ (t s f c : ℕ) (st : List ℕ) (octet : t < 256) (o : Octets st) (long
         value-is = rw (le-leb f 1 (omega arith), four, five, six, seven);
         value-long = rw (four, five, six, seven) (long ∙ rw four);
         four = λ g k. absurd (omega arith);
+        packed = λ g. absurd (omega arith);
         some = λ g. absurd (omega arith);
       }
 
@@ -133,7 +137,7 @@ module _ (t s f c : ℕ) (st : List ℕ) (octet : t < 256) (o : Octets st) (long
       let q = parts (eqb (formOf (shapeOf named)) f) (held (shapeOf named) c st) (parts (eqb (subOf named) s) _ (passes _ (sym (shaped-stands t s f c st octet long h) ∙ stands)) .1) in
       let e : formOf (shapeOf named) ≡ f = eqb→eq (formOf (shapeOf named)) f (q .0) in
       let k = subst (λ (g : ℕ). Told (shapeOf named) named g c st) e (told named c st o (shapeOf named) refl (long ∙ ap (λ (g : ℕ). storedLength g c) (sym e)) (is-true _ (q .1))) in
-      record { value-is = rw (lt-leb f 1 (omega arith)) (k .value-is); value-long = k .value-long; four = k .four; some = k .some }
+      record { value-is = rw (lt-leb f 1 (omega arith)) (k .value-is); value-long = k .value-long; four = k .four; packed = k .packed; some = k .some }
 
   pub shown : Shown named f c st
   shown = go (ltb f 2) refl

@@ -2,7 +2,7 @@
 -- octets. Assumes nothing.
 use mathlib.Core.Path.{_≡_}
 use Prim.Native.Nat.{ℕ, _+_, _*_, _-_, _/_, _%_, _≤_, _<_}
-use mathlib.Core.Bool.{cond}
+use mathlib.Core.Bool.{true, cond}
 use mathlib.Core.List.{List, [], _∷_}
 use lib.Dec.{eqb}
 use lib.ListN.{length, drop, getD}
@@ -10,6 +10,7 @@ use Rattle.meaning.specs.Octets.{digitText, text, unpack}
 use Rattle.meaning.specs.Framing.{isPlain}
 use Rattle.meaning.specs.Shapes.{shapeOf}
 use Rattle.meaning.specs.Sheet.{storedLength}
+use Rattle.octets.specs.DigitStrings.{packedDigits}
 use Rattle.area.specs.Answers.{headLength}
 use Rattle.shape.specs.Codes.{codeOf}
 
@@ -36,7 +37,7 @@ valueAs n f c st =
     (cond (eqb f 7) (cond (eqb (codeOf (shapeOf n)) 71) (getD st 0 0) (digitText (getD st 0 0 % 16)) ∷ []) st)))
 
 -- an item that some readable attribute gives: its octets are as many as it announces, and so are its value's; a number and an
--- address have four
+-- address have four, and digits are decimal
 pub record Written (n f c : ℕ) (st : List ℕ) : Type 0 where
   pub low : n < 512
   pub stored-long : length st ≡ storedLength f c
@@ -44,4 +45,5 @@ pub record Written (n f c : ℕ) (st : List ℕ) : Type 0 where
   pub short : headLength n + valueLength f c < 256
   pub counted : c < 256
   pub four : 2 ≤ f → f < 4 → c ≡ 4
+  pub packed : f ≡ 4 → packedDigits c st ≡ true
   pub some : 6 ≤ f → f ≤ 7 → 1 ≤ length st

@@ -106,7 +106,7 @@ fn put_value(buf: &mut [u8], at: usize, number: u16, form: u8, count: u8, stored
             return;
         }
         4 => {
-            octets::unpack_at(buf, at, stored, octets::wide(count));
+            octets::decimals_at(buf, at, stored, octets::wide(count));
             return;
         }
         5 => {

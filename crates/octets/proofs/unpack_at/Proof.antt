@@ -5,9 +5,9 @@ use Prim.Native.Nat.{_+_, _≤_}
 use borrow.Author.Tests.{not-true, not-false}
 use native.Mathlib.Omega.{arith}
 use lib.ListN.{length, length-drop, length-take}
-use Rattle.meaning.specs.Octets.{unpack, text}
+use Rattle.meaning.specs.Octets.{digitText, unpack, text}
 use Rattle.octets.proofs.Overs.{laid-room, laid-not, laid-part}
-use Rattle.octets.proofs.Unpacking.{unpacked-length, unpacked-over}
+use Rattle.octets.proofs.Unpacking.{unpacked-length, each-over}
 use Rattle.octets.proofs.unpack_at.Statement.{statement}
 use Rattle.octets.proofs.unpack_at.Tie as tie
 
@@ -46,10 +46,11 @@ same-length : tie.Need-same-length
 same-length c = search needs
 
 returns-2 : tie.Need-returns-2
+unfolding text
 returns-2 c =
     let u = c .before .before .before .before in
     let a = u .before .before .before .before .before .args in
-    laid-part (a .at) (text (unpack (a .count) (a .s .now))) (a .buf .now) _ _ (size (u .before .before)) (u .before .fits2 .ensures) _ (not-false _ (u .if1 .left)) (unpacked-over _ (a .count) (a .s .now) _ _ (u .before .before .half-count .ensures) (c .before .before .unpack-text .ensures))
+    laid-part (a .at) (text (unpack (a .count) (a .s .now))) (a .buf .now) _ _ (size (u .before .before)) (u .before .fits2 .ensures) _ (not-false _ (u .if1 .left)) (each-over digitText (a .count) (a .s .now) _ _ _ (u .before .before .half-count .ensures) (c .before .before .unpack-text .ensures))
 
 pub unpack-at-spec : {M : Type 1} → statement M
 unpack-at-spec =

@@ -1,12 +1,13 @@
 -- The octets passed are written, two digits each; an odd last digit comes behind them. Assumes nothing.
 use borrow.Author.Needs.{needs}
+use mathlib.Core.Path.{_∙_}
 use Prim.Native.Nat.{_*_, _-_, _≤_}
 use native.Mathlib.Omega.{arith}
-use lib.ListN.{length-set}
-use Rattle.meaning.specs.Octets.{unpack, text}
+use lib.ListN.{getD, length-set}
+use Rattle.meaning.specs.Octets.{digitText, unpack, text}
 use Rattle.octets.specs.Parts.{Written}
 use Rattle.octets.proofs.Overs.{written-none, written-all}
-use Rattle.octets.proofs.Unpacking.{unpacked-length, high-written, two-written}
+use Rattle.octets.proofs.Unpacking.{unpacked-length, high-written, two-written, high-text}
 use Rattle.octets.proofs.unpack_text.Statement.{statement}
 use Rattle.octets.proofs.unpack_text.Tie as tie
 
@@ -52,9 +53,12 @@ loop-less : tie.Need-loop-less Inv-loop μ-loop
 loop-less c = search needs
 
 loop-again : tie.Need-loop-again Inv-loop μ-loop
+unfolding text
 loop-again c =
     let u = c .before .before .before .before .loop in
-    (two-written _ _ _ _ _ (u .inv .0) (omega arith) (omega (arith, c .before .before .shared-slice-known2 .given (u .i))) _ _ (omega arith) (c .before .digit-text .ensures) (c .digit-text2 .ensures), omega arith)
+    let a = c .before .before .before .before .before .before .before .args in
+    let octet = c .before .before .shared-slice-known2 .given (u .i) in
+    (two-written digitText _ _ _ _ _ (u .inv .0) (omega arith) _ _ (omega arith) (c .before .digit-text .ensures ∙ high-text (getD (a .s .now) (u .i) 0) (omega (arith, octet))) (c .digit-text2 .ensures), omega arith)
 
 mul-if1 : tie.Need-mul-if1 Inv-loop μ-loop
 mul-if1 c = search needs
@@ -75,10 +79,12 @@ same-length : tie.Need-same-length Inv-loop μ-loop
 same-length c = search needs
 
 returns : tie.Need-returns Inv-loop μ-loop
+unfolding text
 returns c =
     let u = c .before .before .before .before .loop in
     let a = c .before .before .before .before .before .before .before .args in
-    written-all _ _ _ _ (high-written _ _ _ _ _ (u .inv .0) (omega arith) (omega (arith, c .before .shared-slice-known3 .given (u .i))) _ (omega arith) (c .digit-text3 .ensures)) (omega (arith, unpacked-length (a .n) (a .s .now)))
+    let octet = c .before .shared-slice-known3 .given (u .i) in
+    written-all _ _ _ _ (high-written digitText _ _ _ _ _ (u .inv .0) (omega arith) _ (omega arith) (c .digit-text3 .ensures ∙ high-text (getD (a .s .now) (u .i) 0) (omega (arith, octet)))) (omega (arith, unpacked-length (a .n) (a .s .now)))
 
 same-length-2 : tie.Need-same-length-2 Inv-loop μ-loop
 same-length-2 c = search needs

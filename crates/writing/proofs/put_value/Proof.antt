@@ -9,26 +9,26 @@ use Rattle.writing.proofs.put_value.Tie as tie
 wide-requires : tie.Need-wide-requires
 wide-requires c κs = search needs
 
-unpack-at-requires : tie.Need-unpack-at-requires
-unpack-at-requires c κs = search needs
+decimals-at-requires : tie.Need-decimals-at-requires
+decimals-at-requires c κs = search needs
 
 same-length : tie.Need-same-length
 same-length c = search needs
 
 returns : tie.Need-returns
-returns c = laid-as _ _ _ _ _ (value-4 _ _ _ _ (c .before .before .before .before .before .match .keys1)) (rw (c .before .before .before .wide .ensures) at (c .before .before .unpack-at .ensures .holds))
+returns c = laid-as _ _ _ _ _ (value-4 _ _ _ _ (c .before .before .before .before .before .before .before .before .pre .0) (c .before .before .before .before .before .match .keys1)) (rw (c .before .before .before .wide .ensures) at (c .before .before .decimals-at .ensures .holds))
 
 mul-unpack-at : tie.Need-mul-unpack-at
 mul-unpack-at c = search needs
 
-unpack-at-requires-2 : tie.Need-unpack-at-requires-2
-unpack-at-requires-2 c κs = search needs
+unpack-at-requires : tie.Need-unpack-at-requires
+unpack-at-requires c κs = search needs
 
 same-length-2 : tie.Need-same-length-2
 same-length-2 c = search needs
 
 returns-2 : tie.Need-returns-2
-returns-2 c = laid-as _ _ _ _ _ (value-5 _ _ _ _ (c .before .before .before .before .match .keys2)) (c .before .before .unpack-at2 .ensures .holds)
+returns-2 c = laid-as _ _ _ _ _ (value-5 _ _ _ _ (c .before .before .before .before .match .keys2)) (c .before .before .unpack-at .ensures .holds)
 
 put-profile-requires : tie.Need-put-profile-requires
 put-profile-requires c κs =
@@ -97,11 +97,11 @@ put-value-spec =
     tie.close
     (tie.spec
     wide-requires
-    unpack-at-requires
+    decimals-at-requires
     same-length
     returns
     mul-unpack-at
-    unpack-at-requires-2
+    unpack-at-requires
     same-length-2
     returns-2
     put-profile-requires
