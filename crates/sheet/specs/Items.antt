@@ -1,15 +1,18 @@
 -- Document 01, "The sheet": the octets of an item, of the items and of the sheet's head, as the writers lay them. Assumes nothing.
-use Prim.Native.Nat.{ℕ, _<_}
+use Prim.Native.Nat.{ℕ, _<_, _≤_}
 use mathlib.Core.Path.{_≡_}
 use mathlib.Core.List.{List, [], _∷_, _++_}
-use lib.ListN.{length}
+use lib.ListN.{length, take}
 use Rattle.meaning.specs.Octets.{octetsOf}
 use Rattle.meaning.specs.Framing.{walk, attributes}
 use Rattle.meaning.specs.Refusals.{none, fault, areaRefusal}
 use Rattle.meaning.specs.Answers.{over}
 use Rattle.meaning.specs.Sheet.{typeOf, subOf, mark, itemsOf}
+use Rattle.area.specs.Answers.{inBook}
 use Rattle.shape.specs.declared.Item.{Item}
 use Rattle.shape.specs.Items.{storedIn}
+use Rattle.sheet.specs.declared.Tally.{Tally}
+use Rattle.sheet.specs.declared.Tally.the-variants.{Whole, Broken}
 
 -- "type, sub-attribute number, form, count" of an item
 unfoldable pub headOf : Item → List ℕ
@@ -32,16 +35,23 @@ sheetHead kind flags count = mark ++ kind ∷ flags ∷ octetsOf 2 count
 unfoldable pub itemsIn : (area : List ℕ) → List ℕ
 itemsIn area = itemsOf (attributes (walk area))
 
--- an area that is well framed
-pub record Sound (area : List ℕ) : Type 0 where
-  pub faultless : fault (walk area) ≡ none
+-- what a pass over a well framed area says: how many items it has and how many octets these are; and what the buffer holds then, the
+-- items over its start if it has room for all
+pub record Passed (area buffer : List ℕ) (count written : ℕ) (held : List ℕ) : Type 0 where
+  pub sound : fault (walk area) ≡ none
+  pub counts : count ≡ length (attributes (walk area))
+  pub long : written ≡ length (itemsIn area)
+  pub holds : written ≤ length buffer → held ≡ over (itemsIn area) buffer
 
--- how many octets the items of an area are that were laid over a buffer's start, and what the buffer holds then
-pub record Passed (area buffer : List ℕ) (counted : ℕ) (held : List ℕ) : Type 0 where
-  pub counts : counted ≡ length (itemsIn area)
-  pub holds : held ≡ over (itemsIn area) buffer
+-- the same of any area
+unfoldable pub PassSays : (area buffer : List ℕ) → Tally → (held : List ℕ) → Type 0
+PassSays area buffer (Whole count written) held = Passed area buffer count written held
+PassSays area buffer (Broken r) held = fault (walk area) ≡ inBook r
 
--- an area of which nothing of 1 to 8 applies, and the number of its attributes
-pub record Admitted (kind flags : ℕ) (area : List ℕ) (count : ℕ) : Type 0 where
+-- an area of which nothing of 1 to 8 applies, how many items it has and how many octets these are; the items stand at the start of
+-- `short`, if they have room there
+pub record Ready (kind flags : ℕ) (area : List ℕ) (count written : ℕ) (short : List ℕ) : Type 0 where
   pub accepted : areaRefusal kind flags area ≡ none
   pub counts : count ≡ length (attributes (walk area))
+  pub long : written ≡ length (itemsIn area)
+  pub laid : written ≤ length short → take written short ≡ itemsIn area

@@ -1,7 +1,8 @@
-// Sheets: an attribute area is read into a sheet. The framing is tested first; then one pass over the area counts the octets needed,
-// unless the buffer has room for any sheet of an area so long, and another writes.
-use area::Framing;
+// Sheets: an attribute area is read into a sheet. One pass over the area tests the framing, counts the items and lays them into a short
+// buffer, from which they are copied; where they have no room there, another lays them into the sheet.
+use area::Arrival;
 use area::Refusal;
+use area::Step;
 use shape::Item;
 use shape::Value;
 ghost use mathlib.Core.Path.{_≡_};
@@ -13,14 +14,22 @@ ghost use lib.ListN.{length, drop, getD};
 ghost use Rattle.meaning.specs.Octets.{octetsOf, pack, packedLength, digitValue};
 ghost use Rattle.octets.specs.Parts.{laidAt};
 ghost use Rattle.octets.specs.DigitStrings.{halves};
+ghost use Rattle.area.specs.Answers.{arrivalOf};
+ghost use Rattle.area.specs.declared.Arrival.the-variants.{Fit};
 ghost use Rattle.shape.specs.Items.{storedPart, storedIn};
-ghost use Rattle.sheet.specs.Items.{headOf, itemIn, Small, sheetHead, itemsIn, Sound, Passed, Admitted};
+ghost use Rattle.sheet.specs.Items.{headOf, itemIn, Small, sheetHead, PassSays, Ready};
 ghost use Rattle.sheet.specs.Answers.{Read};
 
 // What reading answers: the octets of the sheet that stands at the buffer's start, or a refusal.
 pub enum Reading {
     Sheet(usize),
     Refused(Refusal),
+}
+
+// What a pass over an area gives: how many items it has and how many octets these are, or the first refusal of the framing.
+enum Tally {
+    Whole { count: usize, written: usize },
+    Broken(Refusal),
 }
 
 // The release octet of a QoS profile: its two digits as a number.
@@ -134,41 +143,39 @@ fn put_item(buf: &mut [u8], at: usize, area: &[u8], item: Item)
     put_head(buf, at, item);
 }
 
-// The octets of the items of an area that is well framed.
-fn needed_for(area: &[u8]) -> usize
-    requires { ⌜ Sound (now area) ⌝ }
-    ensures { λ r. ⌜ r ≡ length (itemsIn (now (area .entry))) ⌝ }
+// Lays the items of an area over the buffer's start, one behind the other, as far as they have room, and counts them all; or gives the
+// first refusal of the framing.
+fn put_items(area: &[u8], buf: &mut [u8]) -> Tally
+    ensures { λ r. ⌜ PassSays (now (area .entry)) (now (buf .entry)) r (now (buf .exit)) ⌝ }
 {
     let mut place: usize = 0;
-    let mut needed: usize = 0;
-    while place < area.len() {
-        let carried = area::carried_at(area, place);
-        let value = carried.value;
-        let v = octets::part(area, value.start, value.len);
-        needed += 4 + shape::stored_size(carried.number, v);
-        place = carried.next;
-    }
-    needed
-}
-
-// Lays the items of an area that is well framed over the buffer's start, one behind the other, and says how many octets they are.
-fn put_items(area: &[u8], buf: &mut [u8]) -> usize
-    requires { ⌜ Sound (now area) × (length (itemsIn (now area)) ≤ length (now buf)) ⌝ }
-    ensures { λ r. ⌜ Passed (now (area .entry)) (now (buf .entry)) r (now (buf .exit)) ⌝ }
-{
-    let mut place: usize = 0;
+    let mut count: usize = 0;
     let mut written: usize = 0;
-    while place < area.len() {
-        let carried = area::carried_at(area, place);
-        let value = carried.value;
-        let start = value.start;
-        let next = carried.next;
-        let item = shape::item_of(&area[start..next], carried.number, value);
-        put_item(buf, written, area, item);
-        written += 4 + shape::stored_len(item.form, item.count);
-        place = next;
+    loop {
+        match area::step_at(area, place) {
+            Step::Attribute {
+                number,
+                value,
+                next,
+            } => {
+                let start = value.start;
+                let item = shape::item_of(&area[start..next], number, value);
+                let behind = written + (4 + shape::stored_len(item.form, item.count));
+                if behind <= buf.len() {
+                    put_item(buf, written, area, item);
+                }
+                written = behind;
+                place = next;
+                count += 1;
+            }
+            Step::Refused(refusal) => {
+                return Tally::Broken(refusal);
+            }
+            Step::End => {
+                return Tally::Whole { count, written };
+            }
+        }
     }
-    written
 }
 
 // "Nine octets: mark GIR (47 49 52), version 1 as 16 bits, kind, flags, number of items as 16 bits".
@@ -190,46 +197,64 @@ fn sheet_head(kind: u32, flags: u32, count: usize) -> [u8; 9]
     ]
 }
 
-// Lays the sheet of an area that is admitted with its kind and flags over the buffer's start, where it fits.
-fn fill(area: &[u8], kind: u32, flags: u32, count: usize, sheet: &mut [u8]) -> Reading
-    requires { ⌜ Admitted kind flags (now area) count × (9 + length (itemsIn (now area)) ≤ length (now sheet)) ⌝ }
+// The sheet of an area whose items are counted, at the buffer's start, or refusal 9. The items stand at the start of `short`, if they
+// have room there; else they are laid again, into the sheet.
+fn put_sheet(
+    area: &[u8],
+    kind: u32,
+    flags: u32,
+    count: usize,
+    written: usize,
+    short: &[u8],
+    sheet: &mut [u8],
+) -> Reading
+    requires { ⌜ Ready kind flags (now area) count written (now short) ⌝ }
     ensures { λ r. ⌜ Read kind flags (now (area .entry)) (now (sheet .entry)) r (now (sheet .exit)) ⌝ }
 {
-    let head = sheet_head(kind, flags, count);
-    octets::copy_at(sheet, 0, &head);
-    let written = put_items(area, &mut sheet[9..]);
-    Reading::Sheet(9 + written)
-}
-
-// The sheet of an area that is admitted with its kind and flags, at the buffer's start, or refusal 9.
-fn lay(area: &[u8], kind: u32, flags: u32, count: usize, sheet: &mut [u8]) -> Reading
-    requires { ⌜ Admitted kind flags (now area) count ⌝ }
-    ensures { λ r. ⌜ Read kind flags (now (area .entry)) (now (sheet .entry)) r (now (sheet .exit)) ⌝ }
-{
-    // "A sheet is never longer than 9 + 2 x area length": a buffer of that length needs no pass that only counts.
-    if 9 + 2 * area.len() <= sheet.len() {
-        return fill(area, kind, flags, count, sheet);
-    }
-    let needed = 9 + needed_for(area);
+    let needed = 9 + written;
     if sheet.len() < needed {
         return Reading::Refused(Refusal {
             number: 9,
             second: needed,
         });
     }
-    fill(area, kind, flags, count, sheet)
+    let head = sheet_head(kind, flags, count);
+    octets::copy_at(sheet, 0, &head);
+    if written <= short.len() {
+        octets::copy_at(sheet, 9, &short[..written]);
+        return Reading::Sheet(needed);
+    }
+    put_items(area, &mut sheet[9..]);
+    Reading::Sheet(needed)
+}
+
+// The sheet of an area that comes with a fit kind, flags and length, at the buffer's start, or the first of refusals 4 to 9. The items
+// of most areas have room in `short`, so that one pass over the area tests the framing, counts and lays.
+fn lay(area: &[u8], kind: u32, flags: u32, sheet: &mut [u8]) -> Reading
+    requires { ⌜ arrivalOf kind flags (length (now area)) ≡ Fit ⌝ }
+    ensures { λ r. ⌜ Read kind flags (now (area .entry)) (now (sheet .entry)) r (now (sheet .exit)) ⌝ }
+{
+    let mut short = [0u8; 1024];
+    match put_items(area, &mut short) {
+        Tally::Broken(refusal) => {
+            return Reading::Refused(refusal);
+        }
+        Tally::Whole { count, written } => {
+            return put_sheet(area, kind, flags, count, written, &short, sheet);
+        }
+    }
 }
 
 // "Read: attribute area, kind and flags give a sheet", at the buffer's start; a refusal leaves the buffer as it was.
 pub fn read(area: &[u8], kind: u32, flags: u32, sheet: &mut [u8]) -> Reading
     ensures { λ r. ⌜ Read kind flags (now (area .entry)) (now (sheet .entry)) r (now (sheet .exit)) ⌝ }
 {
-    match area::admit(area, kind, flags) {
-        Framing::Broken(refusal) => {
+    match area::arrive(area, kind, flags) {
+        Arrival::Refused(refusal) => {
             return Reading::Refused(refusal);
         }
-        Framing::Whole(count) => {
-            return lay(area, kind, flags, count, sheet);
+        Arrival::Fit => {
+            return lay(area, kind, flags, sheet);
         }
     }
 }

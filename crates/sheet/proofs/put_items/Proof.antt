@@ -1,96 +1,117 @@
--- `sheet::put_items` meets its contract: its loop has laid the items of the attributes before `place`. Assumes nothing.
+-- `sheet::put_items` meets its contract: its loop has counted the items of the attributes before `place`, and laid those that have room.
+-- Assumes nothing.
 use Prim.Native.Nat.{_-_}
 use borrow.Author.Needs.{needs}
 use lib.ListN.{length}
+use mathlib.Core.Logic.{⊎-elim}
+use mathlib.Core.Path.{ap, _∙_}
 use native.Mathlib.Omega.{arith}
-use Rattle.area.proofs.Steps.{slice-octets}
-use Rattle.area.proofs.Carrying.{carried-stands}
+use Rattle.area.proofs.Steps.{Stands, slice-octets, step-attribute, step-refused, step-ended}
 use Rattle.meaning.specs.Octets.{Octets}
-use Rattle.sheet.proofs.Passes.{Passing, passing-none, passing-more, passing-ended, counted-sum, item-made, item-counts, item-small, item-fits}
+use Rattle.sheet.proofs.Passes.{Passing, passing-none, passing-sum, passing-laid, passing-past, passing-done, passing-broken, item-small, item-fits}
 use Rattle.sheet.proofs.put_items.Statement.{statement}
 use Rattle.sheet.proofs.put_items.Tie as tie
 
 abbrev Inv-loop : tie.InvT-loop
-Inv-loop area buf₀ place₀ written₀ buf place written = Passing area buf₀ buf place written
+Inv-loop area buf₀ place₀ count₀ written₀ buf place count written = Passing area buf₀ buf place count written
 
 abbrev μ-loop : tie.MeasureT-loop
-μ-loop area buf₀ place₀ written₀ buf place written = length area - place
+μ-loop area buf₀ place₀ count₀ written₀ buf place count written = length area - place
 
 -- the area holds octets
-octets : (k : tie.At-loop Inv-loop μ-loop) → Octets (k .before .before .before .args .area .now)
-octets k = slice-octets (k .before .before .before .args .area .now) (k .before .before .shared-slice-known .given)
+octets : (k : tie.After-known-told Inv-loop μ-loop) → Octets (k .before .before .before .before .before .before .before .args .area .now)
+octets k = slice-octets (k .before .before .before .before .before .before .before .args .area .now) (k .before .before .before .before .before .before .shared-slice-known .given)
+
+-- what stands at the place, in the arm of an attribute
+stands : (k : tie.After-known-told Inv-loop μ-loop) →
+    (let f = k .before .number .given .0 in
+    Stands (k .before .before .before .before .before .before .before .args .area .now) (k .before .before .before .before .loop .place) (f .0) (f .1 .0) (f .1 .1 .0))
+stands k = step-attribute _ _ _ (k .before .before .before .step-at .ensures) _ _ _ (k .before .number .given .1)
 
 loop-holds : tie.Need-loop-holds Inv-loop μ-loop
-loop-holds c = passing-none _ _ (c .before .before .pre .0)
+loop-holds c = passing-none _ _
 
-carried-at-requires : tie.Need-carried-at-requires Inv-loop μ-loop
-carried-at-requires c κs = search needs
+step-at-requires : tie.Need-step-at-requires Inv-loop μ-loop
+step-at-requires c κs = search needs
+
+enum-known-number : tie.Need-enum-known-number Inv-loop μ-loop
+enum-known-number c = search needs
 
 sub-item-of : tie.Need-sub-item-of Inv-loop μ-loop
-sub-item-of c =
-    let k = c .before .before .before in
-    let g = carried-stands _ _ (octets k) _ (c .before .carried-at .ensures) (k .loop .inv .done .sound) (c .before .before .loop-test .taken) in
-    omega (arith, g .ends, g .inside)
+sub-item-of c = omega (arith, stands c .ends)
 
 part-item-of-start : tie.Need-part-item-of-start Inv-loop μ-loop
-part-item-of-start c =
-    let k = c .before .before .before in
-    let g = carried-stands _ _ (octets k) _ (c .before .carried-at .ensures) (k .loop .inv .done .sound) (c .before .before .loop-test .taken) in
-    omega (arith, g .ends, g .inside)
+part-item-of-start c = omega (arith, stands c .ends)
 
 part-item-of-end : tie.Need-part-item-of-end Inv-loop μ-loop
-part-item-of-end c =
-    let k = c .before .before .before in
-    let g = carried-stands _ _ (octets k) _ (c .before .carried-at .ensures) (k .loop .inv .done .sound) (c .before .before .loop-test .taken) in
-    omega (arith, g .ends, g .inside)
+part-item-of-end c = stands c .inside
 
 item-of-requires : tie.Need-item-of-requires Inv-loop μ-loop
 item-of-requires c κs = search needs
 
-put-item-requires : tie.Need-put-item-requires Inv-loop μ-loop
-put-item-requires c κs =
-    let k = c .before .before .before .before .before .before in
-    let g = carried-stands _ _ (octets k) _ (c .before .before .before .before .carried-at .ensures) (k .loop .inv .done .sound) (c .before .before .before .before .before .loop-test .taken) in
-    let e = item-made _ _ _ _ _ g (octets k) _ (c .before .item-of .ensures) in
-    (item-small _ _ _ _ _ g (octets k) _ e, item-fits _ _ _ _ _ g (octets k) _ _ _ (k .loop .inv) (k .before .before .before .pre .1) _ e)
-
 stored-len-requires : tie.Need-stored-len-requires Inv-loop μ-loop
 stored-len-requires c κs = search needs
 
-add-written : tie.Need-add-written Inv-loop μ-loop
-add-written c =
-    let k = c .before .before .before .before .before .before .before .before .before .before in
-    let g = carried-stands _ _ (octets k) _ (c .before .before .before .before .before .before .before .before .carried-at .ensures) (k .loop .inv .done .sound) (c .before .before .before .before .before .before .before .before .before .loop-test .taken) in
-    let e = item-made _ _ _ _ _ g (octets k) _ (c .before .before .before .before .before .item-of .ensures) in
-    let z = k .before .before .before .good in
-    omega (arith, counted-sum _ _ _ _ _ g (octets k) _ (k .loop .inv .done) _ (item-counts _ _ _ _ _ g (octets k) _ _ e (c .stored-len .ensures)))
+add-behind : tie.Need-add-behind Inv-loop μ-loop
+add-behind c =
+    let k = c .before .before .before in
+    let z = k .before .before .before .before .before .before .before .good in
+    omega (arith, passing-sum _ _ _ _ _ (stands k) (octets k) _ _ (c .before .item-of .ensures) (c .stored-len .ensures) _ _ _ _ (k .before .before .before .before .loop .inv))
 
-add-written-2 : tie.Need-add-written-2 Inv-loop μ-loop
-add-written-2 c =
-    let k = c .before .before .before .before .before .before .before .before .before .before in
-    let g = carried-stands _ _ (octets k) _ (c .before .before .before .before .before .before .before .before .carried-at .ensures) (k .loop .inv .done .sound) (c .before .before .before .before .before .before .before .before .before .loop-test .taken) in
-    let e = item-made _ _ _ _ _ g (octets k) _ (c .before .before .before .before .before .item-of .ensures) in
-    let z = k .before .before .before .good in
-    omega (arith, counted-sum _ _ _ _ _ g (octets k) _ (k .loop .inv .done) _ (item-counts _ _ _ _ _ g (octets k) _ _ e (c .stored-len .ensures)))
+add-behind-2 : tie.Need-add-behind-2 Inv-loop μ-loop
+add-behind-2 c =
+    let k = c .before .before .before in
+    let z = k .before .before .before .before .before .before .before .good in
+    omega (arith, passing-sum _ _ _ _ _ (stands k) (octets k) _ _ (c .before .item-of .ensures) (c .stored-len .ensures) _ _ _ _ (k .before .before .before .before .loop .inv))
+
+put-item-requires : tie.Need-put-item-requires Inv-loop μ-loop
+put-item-requires c κs =
+    let t = c .before .before in
+    let k = t .before .before .before in
+    (item-small _ _ _ _ _ (stands k) (octets k) _ (t .before .item-of .ensures), item-fits _ _ _ _ _ (stands k) (octets k) _ _ (t .before .item-of .ensures) (t .stored-len .ensures) _ _ (c .before .if1 .taken))
+
+add-count : tie.Need-add-count Inv-loop μ-loop
+add-count c =
+    let k = c .before .before .before .before in
+    let p = k .before .before .before .before .loop .inv .passed in
+    omega (arith, p .few, stands k .onwards, stands k .inside)
 
 loop-less : tie.Need-loop-less Inv-loop μ-loop
 loop-less c =
-    let k = c .before .before .before .before .before .before .before .before .before .before in
-    let g = carried-stands _ _ (octets k) _ (c .before .before .before .before .before .before .before .before .carried-at .ensures) (k .loop .inv .done .sound) (c .before .before .before .before .before .before .before .before .before .loop-test .taken) in
-    omega (arith, g .onwards, g .inside)
+    let k = c .before .before .before .before in
+    omega (arith, stands k .onwards, stands k .inside)
 
 loop-again : tie.Need-loop-again Inv-loop μ-loop
 loop-again c =
-    let k = c .before .before .before .before .before .before .before .before .before .before in
-    let g = carried-stands _ _ (octets k) _ (c .before .before .before .before .before .before .before .before .carried-at .ensures) (k .loop .inv .done .sound) (c .before .before .before .before .before .before .before .before .before .loop-test .taken) in
-    let e = item-made _ _ _ _ _ g (octets k) _ (c .before .before .before .before .before .item-of .ensures) in
-    passing-more _ _ _ _ _ g (octets k) _ _ _ (k .loop .inv) (k .before .before .before .pre .1) _ _ _ e (c .stored-len .ensures) (c .before .before .before .put-item .kept .0) (c .before .before .before .put-item .ensures)
+    let t = c .before in
+    let k = t .before .before .before in
+    let i = k .before .before .before .before .loop .inv in
+    ⊎-elim
+    (λ w. passing-laid _ _ _ _ _ (stands k) (octets k) _ _ (t .before .item-of .ensures) (t .stored-len .ensures) _ _ _ _ i _ (ap length (w .5) ∙ w .2 .kept .0) (w .0 .taken) (w .5 ∙ w .2 .ensures))
+    (λ w. passing-past _ _ _ _ _ (stands k) (octets k) _ _ (t .before .item-of .ensures) (t .stored-len .ensures) _ _ _ _ i _ (w .0 .left) (w .1))
+    (c .if1 .came)
+
+enum-known-refusal : tie.Need-enum-known-refusal Inv-loop μ-loop
+enum-known-refusal c = search needs
 
 same-length : tie.Need-same-length Inv-loop μ-loop
-same-length c = c .before .loop .inv .kept
+same-length c = c .before .before .before .before .loop .inv .kept
 
 returns : tie.Need-returns Inv-loop μ-loop
-returns c = passing-ended _ _ (c .loop-test .left) _ _ _ (c .before .loop .inv)
+returns c =
+    passing-broken _ _ _ _ _ _ (c .before .before .before .before .loop .inv) _
+    (step-refused _ _ _ (c .before .before .before .step-at .ensures) _ (c .before .refusal .given .1))
+
+enum-told : tie.Need-enum-told Inv-loop μ-loop
+enum-told c = search needs
+
+same-length-2 : tie.Need-same-length-2 Inv-loop μ-loop
+same-length-2 c = c .before .before .before .loop .inv .kept
+
+returns-2 : tie.Need-returns-2 Inv-loop μ-loop
+returns-2 c =
+    passing-done _ _ _ _ _ _ (c .before .before .before .loop .inv)
+    (step-ended _ _ _ (c .before .before .step-at .ensures) (c .enum-told .given .1))
 
 pub put-items-spec : {M : Type 1} → statement M
 put-items-spec =
@@ -99,16 +120,22 @@ put-items-spec =
     Inv-loop
     μ-loop
     loop-holds
-    carried-at-requires
+    step-at-requires
+    enum-known-number
     sub-item-of
     part-item-of-start
     part-item-of-end
     item-of-requires
-    put-item-requires
     stored-len-requires
-    add-written
-    add-written-2
+    add-behind
+    add-behind-2
+    put-item-requires
+    add-count
     loop-less
     loop-again
+    enum-known-refusal
     same-length
-    returns)
+    returns
+    enum-told
+    same-length-2
+    returns-2)

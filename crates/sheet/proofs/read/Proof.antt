@@ -1,23 +1,26 @@
 -- `sheet::read` meets its contract. Assumes nothing.
 use borrow.Author.Needs.{needs}
-use Rattle.sheet.proofs.Whole.{broken-refused, whole-admitted}
+use mathlib.Core.Path.{sym, _∙_}
+use Rattle.area.proofs.Admitted.{refused-first}
+use Rattle.sheet.proofs.Whole.{refused-read}
 use Rattle.sheet.proofs.read.Statement.{statement}
 use Rattle.sheet.proofs.read.Tie as tie
 
-admit-requires : tie.Need-admit-requires
-admit-requires c κs = search needs
+arrive-requires : tie.Need-arrive-requires
+arrive-requires c κs = search needs
 
 enum-known-refusal : tie.Need-enum-known-refusal
 enum-known-refusal c = search needs
 
 returns : tie.Need-returns
-returns c = broken-refused _ _ _ _ (c .before .before .before .admit .ensures) _ _ (c .before .refusal .given .1)
+returns c =
+    refused-read _ _ _ _ _ (refused-first _ _ _ _ (c .before .before .before .arrive .ensures) _ (c .before .refusal .given .1))
 
-enum-known-count : tie.Need-enum-known-count
-enum-known-count c = search needs
+enum-told : tie.Need-enum-told
+enum-told c = search needs
 
 lay-requires : tie.Need-lay-requires
-lay-requires c κs = whole-admitted _ _ _ _ (c .before .before .before .before .admit .ensures) _ (c .before .before .count .given .1)
+lay-requires c κs = sym (c .before .before .before .arrive .ensures) ∙ c .before .enum-told .given .1
 
 same-length : tie.Need-same-length
 same-length c = search needs
@@ -29,10 +32,10 @@ pub read-spec : {M : Type 1} → statement M
 read-spec =
     tie.close
     (tie.spec
-    admit-requires
+    arrive-requires
     enum-known-refusal
     returns
-    enum-known-count
+    enum-told
     lay-requires
     same-length
     returns-2)
