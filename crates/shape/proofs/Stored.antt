@@ -10,7 +10,6 @@ use Rattle.meaning.specs.Octets.{Octets, numberOf, octetsOf, digitValue, values
 use Rattle.meaning.specs.Shapes.{shapeOf}
 use Rattle.meaning.specs.Sheet.{typeOf, subOf, form, count, stored, item, storedLength}
 use Rattle.meaning.proofs.Numbers.{octets-back}
-use Rattle.meaning.proofs.Packing.{packed-values}
 use Rattle.meaning.proofs.Forms.{announced, stored-octets, form-range}
 use Rattle.octets.specs.Parts.{partOf}
 use Rattle.octets.specs.DigitStrings.{halves, digitsOf, gotOf, packedOf}
@@ -20,7 +19,7 @@ use Rattle.octets.proofs.DigitStrings.{got-digits, packed-as-stored}
 use Rattle.area.specs.declared.Part.{Part}
 use Rattle.shape.specs.Codes.{codeOf}
 use Rattle.shape.specs.Items.{valueBy, digitsBy, itemFor, itemAt, storedPart, storedValue, storedIn}
-use Rattle.shape.proofs.Formed.{Four, Digital, Profile, One, Formed, formed, formed-as}
+use Rattle.shape.proofs.Formed.{Four, Digital, Profile, One, Formed, formed}
 
 each-form : (P : ℕ → Type 0) → P 0 → P 1 → P 2 → P 3 → P 4 → P 5 → P 6 → P 7 → (f : ℕ) → f < 8 → P f
 each-form P a b c d e g h i zero l = a
@@ -72,18 +71,6 @@ form-stored area v s p c e o os =
     (λ w. rw (← e) (profile-stored v s os w))
     (λ w. octet-stored v s c os w)
 
-sized : (c : ℕ) (v s : List ℕ) (f : ℕ) → f < 8 → Formed c f v s → (f ≡ 5 → ⊥) → (f ≡ 6 → ⊥) → storedLength f (length v) ≡ length s
-sized c v s =
-    each-form (λ f. Formed c f v s → (f ≡ 5 → ⊥) → (f ≡ 6 → ⊥) → storedLength f (length v) ≡ length s)
-    (λ w a b. sym (ap length w))
-    (λ w a b. sym (ap length w))
-    (λ w a b. sym (ap length (w .kept)))
-    (λ w a b. sym (ap length (w .kept)))
-    (λ w a b. sym (ap length (w .packed) ∙ packed-values v))
-    (λ w a b. absurd (a refl))
-    (λ w a b. absurd (b refl))
-    (λ w a b. w .long ∙ sym (ap length (w .octet)))
-
 -- What an item stores of its area is what is meant to be stored of the value.
 pub stored-as-meant : (area : List ℕ) (number : ℕ) (value : Part) → Octets area → storedIn area (itemAt area number value) ≡ stored number (partOf area (value .start) (value .len))
 unfolding storedIn itemAt itemFor
@@ -103,7 +90,3 @@ unfolding item itemAt itemFor
 item-as-meant area n p o =
     let v : List ℕ = partOf area (p .start) (p .len) in
     ap (λ (s : List ℕ). typeOf n ∷ subOf n ∷ form n v ∷ count n v ∷ s) (stored-as-meant area n p o)
-
--- So many octets are stored of a value in any form but 5 and 6.
-pub other-size : (n : ℕ) (v : List ℕ) (f size : ℕ) → f ≡ form n v → (f ≡ 5 → ⊥) → (f ≡ 6 → ⊥) → size ≡ storedLength f (length v) → size ≡ length (stored n v)
-other-size n v f size e a b h = h ∙ sized (codeOf (shapeOf n)) v (stored n v) f (omega (arith, e, form-range n v)) (formed-as n v f (sym e)) a b

@@ -9,7 +9,7 @@ ghost use Rattle.meaning.specs.Octets.{all, isHex, digitValue};
 ghost use Rattle.meaning.specs.Shapes.{digits, qos, plainShape, gppShape, shapeOf, release};
 ghost use Rattle.meaning.specs.Shapes as meant;
 ghost use Rattle.meaning.specs.Framing.{isPlain};
-ghost use Rattle.meaning.specs.Sheet.{form, stored, storedLength};
+ghost use Rattle.meaning.specs.Sheet.{form, storedLength};
 ghost use Rattle.shape.specs.Codes.{codeOf, shapeBy};
 ghost use Rattle.shape.specs.Items.{undigited, rawItem, itemFor};
 
@@ -363,18 +363,4 @@ pub fn stored_len(form: u8, count: usize) -> usize
     } else {
         count
     }
-}
-
-// The octets that are stored of a value of a carried number.
-pub fn stored_size(number: u16, value: &[u8]) -> usize
-    ensures { λ r. ⌜ r ≡ length (stored number (now (value .entry))) ⌝ }
-{
-    let form = form_of(number, value);
-    if form == 5 {
-        return octets::packed_len(value.len());
-    }
-    if form == 6 {
-        return 1 + octets::packed_len(value.len() - 3);
-    }
-    stored_len(form, value.len())
 }
