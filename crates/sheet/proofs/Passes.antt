@@ -1,8 +1,7 @@
 -- The pass over an area's attributes: what its loop has counted and laid. Assumes nothing.
 use mathlib.Core.Path.{_≡_, refl, sym, ap, subst, _∙_}
 use mathlib.Core.List.{List, [], _++_, append-assoc, append-nil}
-use Prim.Native.Nat.{ℕ, _+_, _-_, _*_, _≤_, _<_}
-use native.Mathlib.Nat.{lt-irrefl}
+use Prim.Native.Nat.{ℕ, _+_, _-_, _*_, _≤_}
 use native.Mathlib.Omega.{arith}
 use lib.ListN.{length, take, drop, length-append, length-drop}
 use lib.Seq.{length-take-le}
@@ -14,7 +13,7 @@ use Rattle.meaning.specs.Answers.{over}
 use Rattle.meaning.proofs.Forms.{stored-le}
 use Rattle.meaning.proofs.Bounds.{count-fits}
 use Rattle.octets.specs.Parts.{partOf, laidAt}
-use Rattle.octets.proofs.Overs.{over-none, laid-behind}
+use Rattle.octets.proofs.Overs.{over-none, laid-behind, laid-length}
 use Rattle.area.specs.declared.Refusal.{Refusal}
 use Rattle.area.specs.declared.Part.{Part}
 use Rattle.area.proofs.Steps.{Stands}
@@ -26,8 +25,7 @@ use Rattle.shape.proofs.Stored.{announced-as-meant, item-as-meant}
 use Rattle.sheet.specs.declared.Tally.the-variants.{Whole, Broken}
 use Rattle.sheet.specs.Items.{headOf, itemIn, Small, itemsIn, PassSays}
 
--- The loop stands at a place and has gone over the attributes before it, whose items are so many octets; they stand over the start of d,
--- if that has room for them.
+-- The loop stands at a place and has gone over the attributes before it, whose items are so many octets and stand over the start of d.
 pub record Passing (l d out : List ℕ) (place count written : ℕ) : Type 0 where
   pub passed : framing.Passed l count place
   pub gone : List ℕ
@@ -35,7 +33,7 @@ pub record Passing (l d out : List ℕ) (place count written : ℕ) : Type 0 whe
   pub long : length gone ≡ written
   pub few : written ≤ 2 * place
   pub kept : length out ≡ length d
-  pub held : written ≤ length d → out ≡ over gone d
+  pub held : out ≡ over gone d
 
 pub passing-none : (l d : List ℕ) → Passing l d d 0 0 0
 unfolding itemsIn walk
@@ -47,7 +45,7 @@ passing-none l d =
       long = refl;
       few = omega arith;
       kept = refl;
-      held = λ h. sym (over-none d);
+      held = sym (over-none d);
     }
 
 -- the item that the meaning has for an attribute is the one that is made of it
@@ -99,18 +97,18 @@ module _ (l : List ℕ) (place n : ℕ) (p : Part) (behind : ℕ) (g : Stands l 
         ap length octets-are ∙ item-size
         ∙ ap (λ (k : ℕ). 4 + k) (sym (announces ∙ ap (λ (j : Item). storedLength (j .form) (j .count)) (item-made i made) ∙ announced-as-meant l n p))
 
-    -- there is room for the item
-    pub item-fits : (written room : ℕ) → written + (4 + size) ≤ room → written + length (itemIn l i) ≤ room
-    item-fits written room h = omega (arith, octets-long)
-
     module _ (d out : List ℕ) (count written : ℕ) (k : Passing l d out place count written) where
       -- the sums do not wrap
       pub passing-sum : written + (4 + size) ≤ 2 * length l
       passing-sum = omega (arith, octets-long, ap length octets-are, item-bound, k .few, g .inside)
 
+      -- there is room for the item
+      pub item-fits : (room : ℕ) → 2 * length l ≤ room → written + length (itemIn l i) ≤ room
+      item-fits room h = omega (arith, octets-long, passing-sum)
+
       -- one attribute more
-      more : (after : List ℕ) → length after ≡ length out → (written + (4 + size) ≤ length d → after ≡ over (k .gone ++ itemIn l i) d) → Passing l d after behind (count + 1) (written + (4 + size))
-      more after len held =
+      pub passing-laid : (after : List ℕ) → 2 * length l ≤ length d → after ≡ laidAt written (itemIn l i) out → Passing l d after behind (count + 1) (written + (4 + size))
+      passing-laid after room h =
           record {
             passed = framing.passed-more l count place (k .passed) n p behind g;
             gone = k .gone ++ itemIn l i;
@@ -119,34 +117,23 @@ module _ (l : List ℕ) (place n : ℕ) (p : Part) (behind : ℕ) (g : Stands l 
                 ∙ sym (append-assoc (k .gone) (itemIn l i) (itemsOf (attributes (walkAt l behind))));
             long = omega (arith, length-append (k .gone) (itemIn l i), k .long, octets-long);
             few = omega (arith, octets-long, ap length octets-are, item-bound, k .few);
-            kept = len ∙ k .kept;
-            held = held;
+            kept = ap length h ∙ laid-length written (itemIn l i) out ∙ k .kept;
+            held = h ∙ laid-behind (k .gone) (itemIn l i) d out written (k .long) (k .held) (item-fits (length d) room);
           }
-
-      -- its item had room
-      pub passing-laid : (after : List ℕ) → length after ≡ length out → written + (4 + size) ≤ length out → after ≡ laidAt written (itemIn l i) out → Passing l d after behind (count + 1) (written + (4 + size))
-      passing-laid after len room h =
-          let fits : written + (4 + size) ≤ length d = omega (arith, room, k .kept) in
-          more after len
-          (λ q. h ∙ laid-behind (k .gone) (itemIn l i) d out written (k .long) (k .held (omega arith)) (item-fits written (length d) fits))
-
-      -- it had none
-      pub passing-past : (after : List ℕ) → length out < written + (4 + size) → after ≡ out → Passing l d after behind (count + 1) (written + (4 + size))
-      passing-past after room e =
-          more after (ap length e) (λ q. absurd (lt-irrefl (length d) (omega (arith, q, room, k .kept))))
 
 -- The loop is left.
 module _ (l d out : List ℕ) (place count written : ℕ) (k : Passing l d out place count written) where
   -- none is left
-  pub passing-done : walkAt l place ≡ end → PassSays l d (Whole count written) out
+  pub passing-done : place ≤ length l → 2 * length l ≤ length d → walkAt l place ≡ end → PassSays l d (Whole count written) out
   unfolding PassSays itemsOf attributes fault
-  passing-done h =
+  passing-done within room h =
       let all : itemsIn l ≡ k .gone = k .whole ∙ ap (λ (w : Walk). k .gone ++ itemsOf (attributes w)) h ∙ append-nil (k .gone) in
       record {
         sound = k .passed .same-fault ∙ ap fault h;
         counts = omega (arith, k .passed .counted, ap (λ (w : Walk). length (attributes w)) h);
         long = sym (ap length all ∙ k .long);
-        holds = λ room. k .held room ∙ ap (λ (s : List ℕ). over s d) (sym all);
+        fits = omega (arith, k .few, k .kept);
+        holds = k .held ∙ ap (λ (s : List ℕ). over s d) (sym all);
       }
 
   -- a refusal

@@ -3,20 +3,17 @@ use mathlib.Core.Path.{_≡_, refl, sym, ap, subst, _∙_}
 use mathlib.Core.List.{List, _++_}
 use Prim.Native.Nat.{ℕ, _+_, _-_, _≤_, _<_}
 use native.Mathlib.Omega.{arith}
-use lib.ListN.{length, take, drop, length-append, length-drop}
-use lib.Seq.{length-take-le}
+use lib.ListN.{length, take, length-append}
 use borrow.Author.Tests.{lt-ltb, le-ltb}
-use borrow.Rule.Slice.PartMut.{putMid}
 use Rattle.meaning.specs.Octets.{Octets, octetsOf}
 use Rattle.meaning.specs.Framing.{walk, attributes}
 use Rattle.meaning.specs.Refusals.{fault, areaRefusal, areaOrder}
 use Rattle.meaning.specs.Sheet.{sheetWith, sheetOf, Readable}
 use Rattle.meaning.specs.Answers.{over, after, readAnswer}
-use Rattle.meaning.proofs.RoundTrip.{no-refusal}
 use Rattle.meaning.proofs.Sheets.{clear}
 use Rattle.meaning.proofs.Bounds.{sheet-bound, items-fit, kind-octet, flags-octet}
 use Rattle.octets.specs.Parts.{laidAt}
-use Rattle.octets.proofs.Overs.{over-front, laid-first, laid-behind, laid-length, laid-there}
+use Rattle.octets.proofs.Overs.{over-front, laid-first, laid-behind}
 use Rattle.area.specs.declared.Refusal.{Refusal}
 use Rattle.area.specs.declared.Arrival.the-variants.{Fit}
 use Rattle.area.specs.Answers.{inBook, arrivalOf}
@@ -41,7 +38,7 @@ pub refused-read : (kind flags : ℕ) (area : List ℕ) (refused : Refusal) (d :
 unfolding readAnswer areaOrder after
 refused-read kind flags area refused d e = record { says = rw e; holds = rw e }
 
-module _ (kind flags : ℕ) (area : List ℕ) (count written : ℕ) (short : List ℕ) (y : Ready kind flags area count written short) where
+module _ (kind flags : ℕ) (area : List ℕ) (count written : ℕ) (made : List ℕ) (y : Ready kind flags area count written made) where
   sheet-long : length (sheetOf kind flags area) ≡ 9 + written
   sheet-long =
       ap length (sheet-parts kind flags count area (y .counts)) ∙ length-append (sheetHead kind flags count) (itemsIn area)
@@ -75,9 +72,6 @@ module _ (kind flags : ℕ) (area : List ℕ) (count written : ℕ) (short : Lis
 
     -- The sheet: its head over the buffer's start, its items right behind it.
     module _ (headed : List ℕ) (room : 9 + written ≤ length d) (hd : headed ≡ laidAt 0 (sheetHead kind flags count) d) where
-      has-room : 9 + length (itemsIn area) ≤ length headed
-      has-room = omega (arith, room, y .long, ap length hd, laid-length 0 (sheetHead kind flags count) d)
-
       sheet-laid : (held : List ℕ) → held ≡ laidAt 9 (itemsIn area) headed → Read kind flags area d (Sheet (9 + written)) held
       unfolding readAnswer areaOrder after
       sheet-laid held h =
@@ -93,24 +87,14 @@ module _ (kind flags : ℕ) (area : List ℕ) (count written : ℕ) (short : Lis
                 (h ∙ behind ∙ ap (λ (s : List ℕ). over s d) (sym (sheet-parts kind flags count area (y .counts))));
           }
 
-      -- the items were copied
-      pub sheet-copied : (held : List ℕ) → written ≤ length short → held ≡ laidAt 9 (take written short) headed → Read kind flags area d (Sheet (9 + written)) held
-      sheet-copied held h e = sheet-laid held (e ∙ ap (λ (s : List ℕ). laidAt 9 s headed) (y .laid h))
+      -- the items are copied
+      pub sheet-copied : (held : List ℕ) → held ≡ laidAt 9 (take written made) headed → Read kind flags area d (Sheet (9 + written)) held
+      sheet-copied held e = sheet-laid held (e ∙ ap (λ (s : List ℕ). laidAt 9 s headed) (y .laid))
 
-      -- the items were laid again; `putMid` is how the borrow checker puts a lent part back
-      pub sheet-relaid : (r : Tally) (part : List ℕ) → PassSays area (take (length headed - 9) (drop 9 headed)) r part → Read kind flags area d (Sheet (9 + written)) (putMid 9 (length headed - 9) headed part)
-      unfolding PassSays
-      sheet-relaid (Whole c w) part s =
-          let rest : List ℕ = take (length headed - 9) (drop 9 headed) in
-          let size : length rest ≡ length headed - 9 = length-take-le (length headed - 9) (drop 9 headed) (omega (arith, length-drop 9 headed)) in
-          sheet-laid _ (laid-there 9 (itemsIn area) headed part has-room (s .holds (omega (arith, s .long, size, has-room))) .holds)
-      sheet-relaid (Broken x) part s =
-          no-refusal (x .number) (x .second) (sym s ∙ clear kind flags area (y .accepted) .sound)
-
--- ---- The first pass
+-- ---- The pass
 
 -- Nothing of 1 to 3 applies.
-module _ (kind flags : ℕ) (area : List ℕ) (fit : arrivalOf kind flags (length area) ≡ Fit) (blank : List ℕ) (r : Tally) (short : List ℕ) (says : PassSays area blank r short) where
+module _ (kind flags : ℕ) (area : List ℕ) (fit : arrivalOf kind flags (length area) ≡ Fit) (blank : List ℕ) (r : Tally) (made : List ℕ) (says : PassSays area blank r made) where
   left : areaRefusal kind flags area ≡ fault (walk area)
   left = fit-arrived kind flags area (arrivalOf kind flags (length area)) refl fit .left
 
@@ -118,16 +102,17 @@ module _ (kind flags : ℕ) (area : List ℕ) (fit : arrivalOf kind flags (lengt
   pub framing-refused : (refused : Refusal) (d : List ℕ) → r ≡ Broken refused → Read kind flags area d (Refused refused) d
   unfolding PassSays
   framing-refused refused d q =
-      refused-read kind flags area refused d (left ∙ subst (λ (t : Tally). PassSays area blank t short) q says)
+      refused-read kind flags area refused d (left ∙ subst (λ (t : Tally). PassSays area blank t made) q says)
 
   -- the items are counted
-  pub items-ready : (count written : ℕ) → length short ≡ length blank → r ≡ Whole count written → Ready kind flags area count written short
+  pub items-ready : (count written : ℕ) → r ≡ Whole count written → Ready kind flags area count written made
   unfolding PassSays
-  items-ready count written kept q =
-      let s : Passed area blank count written short = subst (λ (t : Tally). PassSays area blank t short) q says in
+  items-ready count written q =
+      let s : Passed area blank count written made = subst (λ (t : Tally). PassSays area blank t made) q says in
       record {
         accepted = left ∙ s .sound;
         counts = s .counts;
         long = s .long;
-        laid = λ room. rw (s .long, s .holds (omega (arith, room, kept))) (over-front (itemsIn area) blank);
+        fits = s .fits;
+        laid = rw (s .long, s .holds) (over-front (itemsIn area) blank);
       }

@@ -36,12 +36,13 @@ unfoldable pub itemsIn : (area : List ℕ) → List ℕ
 itemsIn area = itemsOf (attributes (walk area))
 
 -- what a pass over a well framed area says: how many items it has and how many octets these are; and what the buffer holds then, the
--- items over its start if it has room for all
+-- items over its start
 pub record Passed (area buffer : List ℕ) (count written : ℕ) (held : List ℕ) : Type 0 where
   pub sound : fault (walk area) ≡ none
   pub counts : count ≡ length (attributes (walk area))
   pub long : written ≡ length (itemsIn area)
-  pub holds : written ≤ length buffer → held ≡ over (itemsIn area) buffer
+  pub fits : written ≤ length held
+  pub holds : held ≡ over (itemsIn area) buffer
 
 -- the same of any area
 unfoldable pub PassSays : (area buffer : List ℕ) → Tally → (held : List ℕ) → Type 0
@@ -49,9 +50,10 @@ PassSays area buffer (Whole count written) held = Passed area buffer count writt
 PassSays area buffer (Broken r) held = fault (walk area) ≡ inBook r
 
 -- an area of which nothing of 1 to 8 applies, how many items it has and how many octets these are; the items stand at the start of
--- `short`, if they have room there
-pub record Ready (kind flags : ℕ) (area : List ℕ) (count written : ℕ) (short : List ℕ) : Type 0 where
+-- `made`
+pub record Ready (kind flags : ℕ) (area : List ℕ) (count written : ℕ) (made : List ℕ) : Type 0 where
   pub accepted : areaRefusal kind flags area ≡ none
   pub counts : count ≡ length (attributes (walk area))
   pub long : written ≡ length (itemsIn area)
-  pub laid : written ≤ length short → take written short ≡ itemsIn area
+  pub fits : written ≤ length made
+  pub laid : take written made ≡ itemsIn area

@@ -143,9 +143,10 @@ fn put_item(buf: &mut [u8], at: usize, area: &[u8], item: Item)
     put_head(buf, at, item);
 }
 
-// Lays the items of an area over the buffer's start, one behind the other, as far as they have room, and counts them all; or gives the
-// first refusal of the framing.
+// Lays the items of an area over the buffer's start, one behind the other, and counts them; or gives the first refusal of the framing.
+// "A sheet is never longer than 9 + 2 x area length", so the buffer has room for them.
 fn put_items(area: &[u8], buf: &mut [u8]) -> Tally
+    requires { ⌜ 2 * length (now area) ≤ length (now buf) ⌝ }
     ensures { λ r. ⌜ PassSays (now (area .entry)) (now (buf .entry)) r (now (buf .exit)) ⌝ }
 {
     let mut place: usize = 0;
@@ -160,11 +161,8 @@ fn put_items(area: &[u8], buf: &mut [u8]) -> Tally
             } => {
                 let start = value.start;
                 let item = shape::item_of(&area[start..next], number, value);
-                let behind = written + (4 + shape::stored_len(item.form, item.count));
-                if behind <= buf.len() {
-                    put_item(buf, written, area, item);
-                }
-                written = behind;
+                put_item(buf, written, area, item);
+                written += 4 + shape::stored_len(item.form, item.count);
                 place = next;
                 count += 1;
             }
@@ -197,18 +195,17 @@ fn sheet_head(kind: u32, flags: u32, count: usize) -> [u8; 9]
     ]
 }
 
-// The sheet of an area whose items are counted, at the buffer's start, or refusal 9. The items stand at the start of `short`, if they
-// have room there; else they are laid again, into the sheet.
+// The sheet of an area whose items stand at the start of `made`, at the buffer's start, or refusal 9.
 fn put_sheet(
     area: &[u8],
     kind: u32,
     flags: u32,
     count: usize,
     written: usize,
-    short: &[u8],
+    made: &[u8],
     sheet: &mut [u8],
 ) -> Reading
-    requires { ⌜ Ready kind flags (now area) count written (now short) ⌝ }
+    requires { ⌜ Ready kind flags (now area) count written (now made) ⌝ }
     ensures { λ r. ⌜ Read kind flags (now (area .entry)) (now (sheet .entry)) r (now (sheet .exit)) ⌝ }
 {
     let needed = 9 + written;
@@ -220,29 +217,37 @@ fn put_sheet(
     }
     let head = sheet_head(kind, flags, count);
     octets::copy_at(sheet, 0, &head);
-    if written <= short.len() {
-        octets::copy_at(sheet, 9, &short[..written]);
-        return Reading::Sheet(needed);
-    }
-    put_items(area, &mut sheet[9..]);
+    octets::copy_at(sheet, 9, &made[..written]);
     Reading::Sheet(needed)
 }
 
-// The sheet of an area that comes with a fit kind, flags and length, at the buffer's start, or the first of refusals 4 to 9. The items
-// of most areas have room in `short`, so that one pass over the area tests the framing, counts and lays.
-fn lay(area: &[u8], kind: u32, flags: u32, sheet: &mut [u8]) -> Reading
-    requires { ⌜ arrivalOf kind flags (length (now area)) ≡ Fit ⌝ }
+// The sheet of an area that comes with a fit kind, flags and length, at the buffer's start, or the first of refusals 4 to 9. One pass
+// over the area tests the framing and lays the items into `made`, so that a refusal finds the sheet's buffer as it was.
+fn lay(area: &[u8], kind: u32, flags: u32, made: &mut [u8], sheet: &mut [u8]) -> Reading
+    requires { ⌜ (arrivalOf kind flags (length (now area)) ≡ Fit) × (2 * length (now area) ≤ length (now made)) ⌝ }
     ensures { λ r. ⌜ Read kind flags (now (area .entry)) (now (sheet .entry)) r (now (sheet .exit)) ⌝ }
 {
-    let mut short = [0u8; 1024];
-    match put_items(area, &mut short) {
+    match put_items(area, made) {
         Tally::Broken(refusal) => {
             return Reading::Refused(refusal);
         }
         Tally::Whole { count, written } => {
-            return put_sheet(area, kind, flags, count, written, &short, sheet);
+            return put_sheet(area, kind, flags, count, written, made, sheet);
         }
     }
+}
+
+// The same, with a buffer for the items that is long enough for any area, or for most, which takes less time to clear.
+fn lay_somewhere(area: &[u8], kind: u32, flags: u32, sheet: &mut [u8]) -> Reading
+    requires { ⌜ arrivalOf kind flags (length (now area)) ≡ Fit ⌝ }
+    ensures { λ r. ⌜ Read kind flags (now (area .entry)) (now (sheet .entry)) r (now (sheet .exit)) ⌝ }
+{
+    if area.len() <= 512 {
+        let mut short = [0u8; 1024];
+        return lay(area, kind, flags, &mut short, sheet);
+    }
+    let mut long = [0u8; 8152];
+    lay(area, kind, flags, &mut long, sheet)
 }
 
 // "Read: attribute area, kind and flags give a sheet", at the buffer's start; a refusal leaves the buffer as it was.
@@ -254,7 +259,7 @@ pub fn read(area: &[u8], kind: u32, flags: u32, sheet: &mut [u8]) -> Reading
             return Reading::Refused(refusal);
         }
         Arrival::Fit => {
-            return lay(area, kind, flags, sheet);
+            return lay_somewhere(area, kind, flags, sheet);
         }
     }
 }

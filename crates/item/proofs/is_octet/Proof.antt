@@ -3,7 +3,6 @@ use borrow.Author.Needs.{needs}
 use mathlib.Core.Path.{refl, sym, _∙_}
 use mathlib.Core.List.{[], _∷_}
 use native.Mathlib.Omega.{arith}
-use borrow.Author.Tests.{ne-eqb}
 use Rattle.meaning.specs.Shapes.{hexDigit, anyOctet, decimalDigit, shapeOf, plainShape, gppShape}
 use Rattle.meaning.specs.Sheet.{formOf}
 use Rattle.shape.proofs.Coded.{past-not-in}

@@ -1,14 +1,12 @@
--- `sheet::put_items` meets its contract: its loop has counted the items of the attributes before `place`, and laid those that have room.
--- Assumes nothing.
+-- `sheet::put_items` meets its contract: its loop has counted and laid the items of the attributes before `place`. Assumes nothing.
 use Prim.Native.Nat.{_-_}
 use borrow.Author.Needs.{needs}
 use lib.ListN.{length}
-use mathlib.Core.Logic.{⊎-elim}
-use mathlib.Core.Path.{ap, _∙_}
+use mathlib.Core.Path.{refl}
 use native.Mathlib.Omega.{arith}
 use Rattle.area.proofs.Steps.{Stands, slice-octets, step-attribute, step-refused, step-ended}
 use Rattle.meaning.specs.Octets.{Octets}
-use Rattle.sheet.proofs.Passes.{Passing, passing-none, passing-sum, passing-laid, passing-past, passing-done, passing-broken, item-small, item-fits}
+use Rattle.sheet.proofs.Passes.{Passing, passing-none, passing-sum, passing-laid, passing-done, passing-broken, item-small, item-fits}
 use Rattle.sheet.proofs.put_items.Statement.{statement}
 use Rattle.sheet.proofs.put_items.Tie as tie
 
@@ -49,47 +47,36 @@ part-item-of-end c = stands c .inside
 item-of-requires : tie.Need-item-of-requires Inv-loop μ-loop
 item-of-requires c κs = search needs
 
+put-item-requires : tie.Need-put-item-requires Inv-loop μ-loop
+put-item-requires c κs = let k = c .before .before .before in
+    let i = k .before .before .before .before .loop .inv in
+    (item-small _ _ _ _ _ (stands k) (octets k) _ (c .before .item-of .ensures), item-fits _ _ _ _ _ (stands k) (octets k) _ _ (c .before .item-of .ensures) refl _ _ _ _ i _ (omega (arith, k .before .before .before .before .before .before .before .pre, i .kept)))
+
 stored-len-requires : tie.Need-stored-len-requires Inv-loop μ-loop
 stored-len-requires c κs = search needs
 
-add-behind : tie.Need-add-behind Inv-loop μ-loop
-add-behind c =
-    let k = c .before .before .before in
+add-written : tie.Need-add-written Inv-loop μ-loop
+add-written c = let k = c .before .before .before .before .before .before .before in
     let z = k .before .before .before .before .before .before .before .good in
-    omega (arith, passing-sum _ _ _ _ _ (stands k) (octets k) _ _ (c .before .item-of .ensures) (c .stored-len .ensures) _ _ _ _ (k .before .before .before .before .loop .inv))
+    omega (arith, passing-sum _ _ _ _ _ (stands k) (octets k) _ _ (c .before .before .before .before .before .item-of .ensures) (c .stored-len .ensures) _ _ _ _ (k .before .before .before .before .loop .inv))
 
-add-behind-2 : tie.Need-add-behind-2 Inv-loop μ-loop
-add-behind-2 c =
-    let k = c .before .before .before in
+add-written-2 : tie.Need-add-written-2 Inv-loop μ-loop
+add-written-2 c = let k = c .before .before .before .before .before .before .before in
     let z = k .before .before .before .before .before .before .before .good in
-    omega (arith, passing-sum _ _ _ _ _ (stands k) (octets k) _ _ (c .before .item-of .ensures) (c .stored-len .ensures) _ _ _ _ (k .before .before .before .before .loop .inv))
-
-put-item-requires : tie.Need-put-item-requires Inv-loop μ-loop
-put-item-requires c κs =
-    let t = c .before .before in
-    let k = t .before .before .before in
-    (item-small _ _ _ _ _ (stands k) (octets k) _ (t .before .item-of .ensures), item-fits _ _ _ _ _ (stands k) (octets k) _ _ (t .before .item-of .ensures) (t .stored-len .ensures) _ _ (c .before .if1 .taken))
+    omega (arith, passing-sum _ _ _ _ _ (stands k) (octets k) _ _ (c .before .before .before .before .before .item-of .ensures) (c .stored-len .ensures) _ _ _ _ (k .before .before .before .before .loop .inv))
 
 add-count : tie.Need-add-count Inv-loop μ-loop
-add-count c =
-    let k = c .before .before .before .before in
+add-count c = let k = c .before .before .before .before .before .before .before in
     let p = k .before .before .before .before .loop .inv .passed in
     omega (arith, p .few, stands k .onwards, stands k .inside)
 
 loop-less : tie.Need-loop-less Inv-loop μ-loop
-loop-less c =
-    let k = c .before .before .before .before in
+loop-less c = let k = c .before .before .before .before .before .before .before in
     omega (arith, stands k .onwards, stands k .inside)
 
 loop-again : tie.Need-loop-again Inv-loop μ-loop
-loop-again c =
-    let t = c .before in
-    let k = t .before .before .before in
-    let i = k .before .before .before .before .loop .inv in
-    ⊎-elim
-    (λ w. passing-laid _ _ _ _ _ (stands k) (octets k) _ _ (t .before .item-of .ensures) (t .stored-len .ensures) _ _ _ _ i _ (ap length (w .5) ∙ w .2 .kept .0) (w .0 .taken) (w .5 ∙ w .2 .ensures))
-    (λ w. passing-past _ _ _ _ _ (stands k) (octets k) _ _ (t .before .item-of .ensures) (t .stored-len .ensures) _ _ _ _ i _ (w .0 .left) (w .1))
-    (c .if1 .came)
+loop-again c = let k = c .before .before .before .before .before .before .before in
+    passing-laid _ _ _ _ _ (stands k) (octets k) _ _ (c .before .before .before .before .before .item-of .ensures) (c .stored-len .ensures) _ _ _ _ (k .before .before .before .before .loop .inv) _ (k .before .before .before .before .before .before .before .pre) (c .before .before .before .put-item .ensures)
 
 enum-known-refusal : tie.Need-enum-known-refusal Inv-loop μ-loop
 enum-known-refusal c = search needs
@@ -98,9 +85,7 @@ same-length : tie.Need-same-length Inv-loop μ-loop
 same-length c = c .before .before .before .before .loop .inv .kept
 
 returns : tie.Need-returns Inv-loop μ-loop
-returns c =
-    passing-broken _ _ _ _ _ _ (c .before .before .before .before .loop .inv) _
-    (step-refused _ _ _ (c .before .before .before .step-at .ensures) _ (c .before .refusal .given .1))
+returns c = passing-broken _ _ _ _ _ _ (c .before .before .before .before .loop .inv) _ (step-refused _ _ _ (c .before .before .before .step-at .ensures) _ (c .before .refusal .given .1))
 
 enum-told : tie.Need-enum-told Inv-loop μ-loop
 enum-told c = search needs
@@ -109,9 +94,7 @@ same-length-2 : tie.Need-same-length-2 Inv-loop μ-loop
 same-length-2 c = c .before .before .before .loop .inv .kept
 
 returns-2 : tie.Need-returns-2 Inv-loop μ-loop
-returns-2 c =
-    passing-done _ _ _ _ _ _ (c .before .before .before .loop .inv)
-    (step-ended _ _ _ (c .before .before .step-at .ensures) (c .enum-told .given .1))
+returns-2 c = passing-done _ _ _ _ _ _ (c .before .before .before .loop .inv) (c .before .before .before .loop .inv .passed .inside) (c .before .before .before .before .before .before .pre) (step-ended _ _ _ (c .before .before .step-at .ensures) (c .enum-told .given .1))
 
 pub put-items-spec : {M : Type 1} → statement M
 put-items-spec =
@@ -126,10 +109,10 @@ put-items-spec =
     part-item-of-start
     part-item-of-end
     item-of-requires
-    stored-len-requires
-    add-behind
-    add-behind-2
     put-item-requires
+    stored-len-requires
+    add-written
+    add-written-2
     add-count
     loop-less
     loop-again

@@ -2,23 +2,19 @@
 use borrow.Author.Needs.{needs}
 use lib.Seq.{length-take-le}
 use mathlib.Core.Path.{sym}
-use native.Mathlib.Omega.{arith}
 use Rattle.area.proofs.Steps.{slice-octets}
-use Rattle.sheet.proofs.Whole.{bounded, too-long, sheet-copied, sheet-relaid}
+use Rattle.sheet.proofs.Whole.{bounded, too-long, sheet-copied}
 use Rattle.sheet.proofs.put_sheet.Statement.{statement}
 use Rattle.sheet.proofs.put_sheet.Tie as tie
 
 add-needed : tie.Need-add-needed
-add-needed c =
-    let s = bounded _ _ _ _ _ _ (c .before .before .before .pre) (slice-octets (c .before .before .before .args .area .now) (c .before .before .shared-slice-known .given)) in
-    omega (arith, s .small)
+add-needed c = search needs
 
 returns : tie.Need-returns
 returns c = too-long _ _ _ _ _ _ (c .before .before .before .before .pre) _ (c .if1 .taken)
 
 sheet-head-requires : tie.Need-sheet-head-requires
-sheet-head-requires c κs =
-    let s = bounded _ _ _ _ _ _ (c .before .before .before .before .pre) (slice-octets (c .before .before .before .before .args .area .now) (c .before .before .before .shared-slice-known .given)) in
+sheet-head-requires c κs = let s = bounded _ _ _ _ _ _ (c .before .before .before .before .pre) (slice-octets (c .before .before .before .before .args .area .now) (c .before .before .before .shared-slice-known .given)) in
     (s .kind-low, s .flags-low, s .few)
 
 slice-aggregate-copy-at : tie.Need-slice-aggregate-copy-at
@@ -28,7 +24,7 @@ copy-at-requires : tie.Need-copy-at-requires
 copy-at-requires c κs = search needs
 
 slice-aggregate-copy-at-2 : tie.Need-slice-aggregate-copy-at-2
-slice-aggregate-copy-at-2 c = sym (length-take-le _ _ (c .before .before .if2 .taken))
+slice-aggregate-copy-at-2 c = sym (length-take-le _ _ (c .before .before .before .before .before .before .before .before .before .before .before .before .pre .fits))
 
 copy-at-requires-2 : tie.Need-copy-at-requires-2
 copy-at-requires-2 c κs = search needs
@@ -37,31 +33,7 @@ same-length : tie.Need-same-length
 same-length c = search needs
 
 returns-2 : tie.Need-returns-2
-returns-2 c =
-    sheet-copied _ _ _ _ _ _ (c .before .before .before .before .before .before .before .before .before .before .before .before .before .before .before .before .pre) _ _ (c .before .before .before .before .before .before .before .before .before .before .before .before .if1 .left)
-    (rw (c .before .before .before .before .before .before .before .before .before .before .before .sheet-head .ensures) at (c .before .before .before .before .before .before .before .before .copy-at .ensures .holds))
-    _ (c .before .before .before .before .before .if2 .taken) (c .before .before .copy-at2 .ensures .holds)
-
-sub-put-items : tie.Need-sub-put-items
-sub-put-items c = search needs
-
-part-put-items-start : tie.Need-part-put-items-start
-part-put-items-start c = search needs
-
-part-put-items-end : tie.Need-part-put-items-end
-part-put-items-end c = search needs
-
-put-items-requires : tie.Need-put-items-requires
-put-items-requires c κs = search needs
-
-same-length-2 : tie.Need-same-length-2
-same-length-2 c = search needs
-
-returns-3 : tie.Need-returns-3
-returns-3 c =
-    sheet-relaid _ _ _ _ _ _ (c .before .before .before .before .before .before .before .before .before .before .before .before .before .before .before .pre) _ _ (c .before .before .before .before .before .before .before .before .before .before .before .if1 .left)
-    (rw (c .before .before .before .before .before .before .before .before .before .before .sheet-head .ensures) at (c .before .before .before .before .before .before .before .copy-at .ensures .holds))
-    _ _ (c .before .before .put-items .ensures)
+returns-2 c = sheet-copied _ _ _ _ _ _ (c .before .before .before .before .before .before .before .before .before .before .before .before .before .before .before .pre) _ _ (c .before .before .before .before .before .before .before .before .before .before .before .if1 .left) (rw (c .before .before .before .before .before .before .before .before .before .before .sheet-head .ensures) at (c .before .before .before .before .before .before .before .copy-at .ensures .holds)) _ (c .before .before .copy-at2 .ensures .holds)
 
 pub put-sheet-spec : {M : Type 1} → statement M
 put-sheet-spec =
@@ -75,10 +47,4 @@ put-sheet-spec =
     slice-aggregate-copy-at-2
     copy-at-requires-2
     same-length
-    returns-2
-    sub-put-items
-    part-put-items-start
-    part-put-items-end
-    put-items-requires
-    same-length-2
-    returns-3)
+    returns-2)
