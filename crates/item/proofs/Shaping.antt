@@ -13,7 +13,7 @@ use Rattle.meaning.specs.Shapes.{Shape, free, shapeOf}
 use Rattle.meaning.specs.Sheet.{formOf}
 use Rattle.meaning.proofs.Tests.{left-or, is-true}
 use Rattle.shape.specs.Codes.{codeOf, shapes, shapeBy}
-use Rattle.shape.proofs.Codes.{each, every-shape, Past}
+use Rattle.shape.proofs.Codes.{each, every-shape, Past, alone}
 use Rattle.shape.proofs.Coded.{past-not-in, passesIn, passes-in, passes-from}
 use Rattle.shape.proofs.Formed.{arm-shape}
 use Rattle.item.specs.Stands.{held, shaped}
@@ -98,6 +98,6 @@ module _ (n f c : ℕ) (st : List ℕ) where
       go false e = refl
       go true e =
           let own : formOf (shapeOf n) ≡ f = eqb-true (formOf (shapeOf n)) f e in
-          let out : isIn (formOf (shapeOf n)) forms ≡ false = ap (λ (k : ℕ). isIn k forms) own ∙ past-not-in (Unit {0}) f forms p in
+          let out : isIn (formOf (shapeOf n)) forms ≡ false = ap (λ (k : ℕ). isIn k forms) own ∙ past-not-in (Unit {0}) f (alone forms) p in
           let low : T (not (leb 2 (formOf (shapeOf n)))) = subst (λ (b : Bool). T (b || not (leb 2 (formOf (shapeOf n))))) out (every-shape (λ (s : Shape). isIn (formOf s) forms || not (leb 2 (formOf s))) tt tt n) in
           rw (is-false (leb 2 (formOf (shapeOf n))) low)

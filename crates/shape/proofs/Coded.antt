@@ -1,23 +1,39 @@
--- The code of a number that the lines of document 01 do not name is 0, and a test of all numbers' shapes. Assumes nothing.
+-- The numbers that the lines of document 01 name have the shape of their line, and any other number has none. Assumes nothing.
 use mathlib.Core.Path.{_≡_, refl, sym, ap, subst, _∙_}
-use mathlib.Core.Bool.{Bool, true, false, _&&_, _||_, and-false}
-use mathlib.Core.List.{List, [], _∷_}
+use mathlib.Core.Logic.{inl, inr, ⊎-elim}
+use mathlib.Core.Bool.{Bool, true, false, cond, _&&_, _||_, and-false}
+use mathlib.Core.List.{List, [], _∷_, _++_, map}
 use Prim.Native.Nat.{ℕ, zero, suc, _+_, _-_, _<_, _≤_}
 use native.Mathlib.Omega.{arith}
-use lib.Dec.{T, eqb, ltb, leb, eqb→eq}
-use borrow.Author.Tests.{ne-eqb, lt-leb, ltb-true, ltb-false}
+use lib.Dec.{T, eqb, ltb, eqb→eq}
+use lib.ListN.{getD}
+use borrow.Author.Tests.{ne-eqb, le-ltb, lt-leb, ltb-true, ltb-false}
+use types.Run.{OneOf}
 use Rattle.meaning.specs.Octets.{isIn}
-use Rattle.meaning.specs.Shapes.{Shape, free, plainShape, gppShape, shapeOf}
+use Rattle.meaning.specs.Shapes.{Shape, number, address, digits, hexadecimal, qos, hexDigit, anyOctet, decimalDigit, atLeast, exactly, blocks, free, plainShape, gppShape, shapeOf}
+use Rattle.meaning.specs.Sheet.{formOf}
 use Rattle.meaning.proofs.Tests.{parts}
 use Rattle.shape.specs.Codes.{codeOf, shapeBy}
-use Rattle.shape.proofs.Codes.{Past, past-before, shape-back, code-3gpp}
+use Rattle.shape.proofs.Codes.{shape-back, PastArms, past-before, alone, Past}
+
+-- ---- The numbers of a match
+
+-- the numbers of some arms
+abbrev pub named : List (List ℕ) → List ℕ
+named [] = []
+named (l ∷ arms) = l ++ named arms
+
+-- a number behind an arm is none of its numbers
+not-one : (n : ℕ) (l rest : List ℕ) → (OneOf l n → ⊥) → isIn n rest ≡ false → isIn n (l ++ rest) ≡ false
+not-one n [] rest past other = other
+not-one n (x ∷ []) rest past other = rw (ne-eqb n x past) other
+not-one n (x ∷ y ∷ l) rest past other = rw (ne-eqb n x (λ e. past (inl e))) (not-one n (y ∷ l) rest (λ o. past (inr o)) other)
 
 -- a number behind the arms of a match is in none of them
-pub past-not-in : (before : Type 0) (n : ℕ) (l : List ℕ) → Past before n l → isIn n l ≡ false
+pub past-not-in : (before : Type 0) (n : ℕ) (arms : List (List ℕ)) → PastArms before n arms → isIn n (named arms) ≡ false
 past-not-in before n [] p = refl
-past-not-in before n (x ∷ l) p =
-    rw (ne-eqb n x (past-before (before × (n ≡ x → ⊥)) n l p .1))
-    (past-not-in (before × (n ≡ x → ⊥)) n l p)
+past-not-in before n (l ∷ arms) p =
+    not-one n l (named arms) (past-before (before × (OneOf l n → ⊥)) n arms p .1) (past-not-in (before × (OneOf l n → ⊥)) n arms p)
 
 -- a test passes at each number below a bound
 abbrev below : (ℕ → Bool) → ℕ → Bool
@@ -32,15 +48,39 @@ below-at p (suc b) n t h = go (ltb n b) refl (below-at p b n (parts (p b) (below
     go true e lower = lower (ltb-true n b e)
     go false e lower = subst (λ (k : ℕ). T (p k)) (omega (arith, h, ltb-false n b e)) (parts (p b) (below p b) t .0)
 
--- Numbers that are not in a list have the code 0, where that holds below a bound by computing and from it on.
-other-code : (shape : ℕ → Shape) (l : List ℕ) (bound : ℕ) → T (below (λ n. isIn n l || eqb (codeOf (shape n)) 0) bound) → ((n : ℕ) → bound ≤ n → codeOf (shape n) ≡ 0) → (n : ℕ) → Past (Unit {0}) n l → codeOf (shape n) ≡ 0
-other-code shape l bound t above n p = go (ltb n bound) refl
+-- What is 0 behind the arms of a match: what is so below a bound, by computing, and from it on.
+none-other : (f : ℕ → ℕ) (arms : List (List ℕ)) (bound : ℕ) → T (below (λ n. isIn n (named arms) || eqb (f n) 0) bound) → ((n : ℕ) → bound ≤ n → f n ≡ 0) → (n : ℕ) → PastArms (Unit {0}) n arms → f n ≡ 0
+none-other f arms bound t above n p = go (ltb n bound) refl
   where
-    go : (less : Bool) → ltb n bound ≡ less → codeOf (shape n) ≡ 0
+    go : (less : Bool) → ltb n bound ≡ less → f n ≡ 0
     go true e =
-        let named = below-at (λ (k : ℕ). isIn k l || eqb (codeOf (shape k)) 0) bound n t (ltb-true n bound e) in
-        eqb→eq (codeOf (shape n)) 0 (subst (λ (b : Bool). T (b || eqb (codeOf (shape n)) 0)) (past-not-in (Unit {0}) n l p) named)
+        let known = below-at (λ (k : ℕ). isIn k (named arms) || eqb (f k) 0) bound n t (ltb-true n bound e) in
+        eqb→eq (f n) 0 (subst (λ (b : Bool). T (b || eqb (f n) 0)) (past-not-in (Unit {0}) n arms p) known)
     go false e = above n (ltb-false n bound e)
+
+-- ---- The numbers above all that a line names
+
+-- a number from a bound on is none below it
+from : (bound n : ℕ) → bound ≤ n → (k : ℕ) → eqb n k ≡ cond (ltb k bound) false (eqb n k)
+from bound n h k = go (ltb k bound) refl
+  where
+    go : (less : Bool) → ltb k bound ≡ less → eqb n k ≡ cond less false (eqb n k)
+    go true e = ne-eqb n k (λ same. omega (arith, ltb-true k bound e))
+    go false e = refl
+
+plain-above : (t : ℕ) → 62 ≤ t → plainShape t ≡ free
+unfolding plainShape
+plain-above t h = simp (from 62 t h, lt-leb t 43 (omega arith), lt-leb t 49 (omega arith), and-false)
+
+gpp-above : (s : ℕ) → 19 ≤ s → gppShape s ≡ free
+unfolding gppShape
+gpp-above s h = simp (from 19 s h)
+
+above : (n : ℕ) → 275 ≤ n → shapeOf n ≡ free
+unfolding shapeOf
+above n h = rw (le-ltb n 256 (omega arith)) (gpp-above (n - 256) (omega arith))
+
+-- ---- The code of a plain and of a 3GPP number
 
 -- the plain numbers that a line names
 abbrev pub plainNumbers : List ℕ
@@ -48,30 +88,99 @@ plainNumbers = 1 ∷ 2 ∷ 3 ∷ 4 ∷ 6 ∷ 7 ∷ 8 ∷ 9 ∷ 18 ∷ 24 ∷ 25 
 
 pub plain-other : (t : ℕ) → Past (Unit {0}) t plainNumbers → codeOf (plainShape t) ≡ 0
 unfolding plainShape codeOf
-plain-other = other-code plainShape plainNumbers 62 tt above
-  where
-    above : (t : ℕ) → 62 ≤ t → codeOf (plainShape t) ≡ 0
-    above t h = rw (ne-eqb t 6 (λ e. omega (arith, h, e)), ne-eqb t 7 (λ e. omega (arith, h, e)), ne-eqb t 61 (λ e. omega (arith, h, e)), ne-eqb t 4 (λ e. omega (arith, h, e)), ne-eqb t 8 (λ e. omega (arith, h, e)), ne-eqb t 9 (λ e. omega (arith, h, e)), ne-eqb t 31 (λ e. omega (arith, h, e)), ne-eqb t 44 (λ e. omega (arith, h, e)), ne-eqb t 1 (λ e. omega (arith, h, e)), ne-eqb t 18 (λ e. omega (arith, h, e)), ne-eqb t 24 (λ e. omega (arith, h, e)), ne-eqb t 25 (λ e. omega (arith, h, e)), ne-eqb t 30 (λ e. omega (arith, h, e)), ne-eqb t 32 (λ e. omega (arith, h, e)), ne-eqb t 2 (λ e. omega (arith, h, e)), ne-eqb t 3 (λ e. omega (arith, h, e)), ne-eqb t 60 (λ e. omega (arith, h, e)), lt-leb t 43 (omega (arith, h)), lt-leb t 49 (omega (arith, h)), and-false (leb 40 t), and-false (leb 45 t))
+plain-other = none-other (λ t. codeOf (plainShape t)) (alone plainNumbers) 62 tt (λ t h. rw (plain-above t h))
 
 -- the 3GPP numbers that a line names
 abbrev pub gppNumbers : List ℕ
 gppNumbers = 1 ∷ 2 ∷ 3 ∷ 4 ∷ 5 ∷ 6 ∷ 7 ∷ 8 ∷ 9 ∷ 10 ∷ 11 ∷ 12 ∷ 18 ∷ []
 
--- from 19 on there is none
-gpp-above : (s : ℕ) → 19 ≤ s → codeOf (gppShape s) ≡ 0
-unfolding gppShape codeOf
-gpp-above s h = rw (ne-eqb s 1 (λ e. omega (arith, h, e)), ne-eqb s 2 (λ e. omega (arith, h, e)), ne-eqb s 3 (λ e. omega (arith, h, e)), ne-eqb s 4 (λ e. omega (arith, h, e)), ne-eqb s 6 (λ e. omega (arith, h, e)), ne-eqb s 7 (λ e. omega (arith, h, e)), ne-eqb s 5 (λ e. omega (arith, h, e)), ne-eqb s 8 (λ e. omega (arith, h, e)), ne-eqb s 9 (λ e. omega (arith, h, e)), ne-eqb s 18 (λ e. omega (arith, h, e)), ne-eqb s 10 (λ e. omega (arith, h, e)), ne-eqb s 11 (λ e. omega (arith, h, e)), ne-eqb s 12 (λ e. omega (arith, h, e)))
-
 pub gpp-other : (s : ℕ) → Past (Unit {0}) s gppNumbers → codeOf (gppShape s) ≡ 0
 unfolding gppShape codeOf
-gpp-other = other-code gppShape gppNumbers 19 tt gpp-above
+gpp-other = none-other (λ s. codeOf (gppShape s)) (alone gppNumbers) 19 tt (λ s h. rw (gpp-above s h))
+
+-- ---- The shape of a carried number
+
+-- an arm: a shape, and numbers that have it
+abbrev pub Arm : Type 0
+Arm = Shape × List ℕ
+
+-- the carried numbers of the length rules, the even and the odd ones of a shape apart
+abbrev pub ruleArms : List Arm
+ruleArms =
+    (atLeast 1, 1 ∷ 25 ∷ [])
+    ∷ (atLeast 1, 18 ∷ 24 ∷ 30 ∷ 32 ∷ [])
+    ∷ (atLeast 5, 60 ∷ [])
+    ∷ (exactly 17, 3 ∷ [])
+    ∷ (blocks, 2 ∷ [])
+    ∷ []
+
+-- those of the shapes that have a form of their own
+abbrev pub formArms : List Arm
+formArms =
+    (number, 6 ∷ 40 ∷ 42 ∷ 46 ∷ 48 ∷ 258 ∷ [])
+    ∷ (number, 7 ∷ 41 ∷ 43 ∷ 45 ∷ 47 ∷ 49 ∷ 61 ∷ 259 ∷ [])
+    ∷ (address, 4 ∷ 8 ∷ 260 ∷ 262 ∷ [])
+    ∷ (address, 9 ∷ 263 ∷ [])
+    ∷ (digits 1 15, 31 ∷ 257 ∷ [])
+    ∷ (digits 5 6, 264 ∷ 274 ∷ [])
+    ∷ (digits 5 6, 265 ∷ [])
+    ∷ (hexadecimal, 44 ∷ [])
+    ∷ (qos, 261 ∷ [])
+    ∷ (hexDigit, 266 ∷ [])
+    ∷ (anyOctet, 267 ∷ [])
+    ∷ (decimalDigit, 268 ∷ [])
+    ∷ []
+
+-- the numbers of arms
+abbrev pub numbersOf : List Arm → List (List ℕ)
+numbersOf = map (λ (a : Arm). a .1)
+
+-- the shapes of these numbers, and what they are to be
+abbrev found : List Arm → List (List Shape)
+found = map (λ (a : Arm). map shapeOf (a .1))
+
+abbrev asked : List Arm → List (List Shape)
+asked = map (λ (a : Arm). map (λ k. a .0) (a .1))
+
+-- the arm at a place in the order of the text, from 0 on
+abbrev pub armAt : List Arm → ℕ → Arm
+armAt arms k = getD arms k (free, [])
+
+one-shape : (s : Shape) (l : List ℕ) (n : ℕ) → map shapeOf l ≡ map (λ k. s) l → OneOf l n → shapeOf n ≡ s
+one-shape s [] n e o = absurd o
+one-shape s (x ∷ []) n e o = let here : shapeOf x ≡ s = cc in ap shapeOf o ∙ here
+one-shape s (x ∷ y ∷ l) n e o =
+    let here : shapeOf x ≡ s = cc in
+    let later : map shapeOf (y ∷ l) ≡ map (λ k. s) (y ∷ l) = cc in
+    ⊎-elim (λ i. ap shapeOf i ∙ here) (one-shape s (y ∷ l) n later) o
+
+-- a number that comes to an arm has the arm's shape
+in-arm : (arms : List Arm) → found arms ≡ asked arms → (k n : ℕ) → OneOf (armAt arms k .1) n → shapeOf n ≡ armAt arms k .0
+in-arm [] e k n o = absurd o
+in-arm (a ∷ arms) e zero n o = let here : map shapeOf (a .1) ≡ map (λ k. a .0) (a .1) = cc in one-shape (a .0) (a .1) n here o
+in-arm (a ∷ arms) e (suc k) n o = let later : found arms ≡ asked arms = cc in in-arm arms later k n o
+
+pub in-form : (k n : ℕ) → OneOf (armAt formArms k .1) n → shapeOf n ≡ armAt formArms k .0
+unfolding shapeOf plainShape gppShape
+in-form = in-arm formArms refl
+
+pub in-shape : (k n : ℕ) → OneOf (armAt (ruleArms ++ formArms) k .1) n → shapeOf n ≡ armAt (ruleArms ++ formArms) k .0
+unfolding shapeOf plainShape gppShape
+in-shape = in-arm (ruleArms ++ formArms) refl
+
+-- A number in none of the arms of forms has no form of its own.
+pub form-other : (n : ℕ) → PastArms (Unit {0}) n (numbersOf formArms) → formOf (shapeOf n) ≡ 0
+unfolding shapeOf plainShape gppShape formOf
+form-other = none-other (λ n. formOf (shapeOf n)) (numbersOf formArms) 275 tt (λ n h. rw (above n h))
+
+-- A number in none of all arms has no shape.
+pub shape-other : (n : ℕ) → PastArms (Unit {0}) n (numbersOf (ruleArms ++ formArms)) → shapeOf n ≡ free
+unfolding shapeOf plainShape gppShape codeOf shapeBy
+shape-other n p =
+    let code-is : codeOf (shapeOf n) ≡ 0 = none-other (λ k. codeOf (shapeOf k)) (numbersOf (ruleArms ++ formArms)) 275 tt (λ k h. rw (above k h)) n p in
+    sym (shape-back n) ∙ ap shapeBy code-is
 
 -- ---- A test of the shapes of numbers
-
--- no carried number from 275 on has a shape
-no-shape-above : (n : ℕ) → 275 ≤ n → shapeOf n ≡ free
-unfolding codeOf shapeBy
-no-shape-above n h = sym (shape-back n) ∙ ap shapeBy (code-3gpp n (omega arith) ∙ gpp-above (n - 256) (omega arith))
 
 -- a test passes at the shape of each number from one to below another, but for some numbers
 abbrev pub passesIn : (Shape → Bool) → (but : List ℕ) (from to : ℕ) → Bool
@@ -90,4 +199,4 @@ module _ (p : Shape → Bool) (but : List ℕ) (from : ℕ) where
     where
       go : (less : Bool) → ltb n 275 ≡ less → T (p (shapeOf n))
       go true e = passes-in 275 t n out low (ltb-true n 275 e)
-      go false e = subst (λ (s : Shape). T (p s)) (sym (no-shape-above n (ltb-false n 275 e))) f
+      go false e = subst (λ (s : Shape). T (p s)) (sym (above n (ltb-false n 275 e))) f

@@ -6,6 +6,7 @@ use mathlib.Core.List.{List, [], _∷_, map}
 use Prim.Native.Nat.{ℕ, _-_, _/_, _<_, _≤_}
 use lib.Dec.{T, eqb, leb}
 use borrow.Author.Tests.{lt-ltb, le-ltb, ne-eqb}
+use types.Run.{OneOf}
 use Rattle.meaning.specs.Shapes.{Shape, number, address, digits, hexadecimal, qos, hexDigit, anyOctet, decimalDigit, atLeast, exactly, blocks, free, plainShape, gppShape, shapeOf}
 use Rattle.meaning.specs.Sheet.{formOf}
 use Rattle.meaning.proofs.Tests.{parts}
@@ -106,19 +107,29 @@ fifteen free = true
 pub at-most-fifteen : (n : ℕ) → T (fifteen (shapeOf n))
 at-most-fifteen = every-shape fifteen tt tt
 
--- a code behind the arms of a match: it is none of theirs, nor any of what came before
-abbrev pub Past : (before : Type 0) (code : ℕ) → List ℕ → Type 0
-Past before c [] = before
-Past before c (x ∷ l) = Past (before × (c ≡ x → ⊥)) c l
+-- ---- A code behind all arms
 
-pub past-before : (before : Type 0) (c : ℕ) (l : List ℕ) → Past before c l → before
-past-before before c [] p = p
-past-before before c (x ∷ l) p = past-before (before × (c ≡ x → ⊥)) c l p .0
+-- a number behind the arms of a match: what came before holds, and it is none of theirs
+abbrev pub PastArms : (before : Type 0) (n : ℕ) → List (List ℕ) → Type 0
+PastArms before n [] = before
+PastArms before n (l ∷ arms) = PastArms (before × (OneOf l n → ⊥)) n arms
 
-pub none-among : (before : Type 0) (l : List Shape) (c : ℕ) → Past before c (map codeOf l) → shapeAmong l c ≡ free
+pub past-before : (before : Type 0) (n : ℕ) (arms : List (List ℕ)) → PastArms before n arms → before
+past-before before n [] p = p
+past-before before n (l ∷ arms) p = past-before (before × (OneOf l n → ⊥)) n arms p .0
+
+-- an arm for each number
+abbrev pub alone : List ℕ → List (List ℕ)
+alone = map (λ k. k ∷ [])
+
+-- a number behind the arms of a match that have one number each
+abbrev pub Past : (before : Type 0) (n : ℕ) → List ℕ → Type 0
+Past before n l = PastArms before n (alone l)
+
+none-among : (before : Type 0) (l : List Shape) (c : ℕ) → Past before c (map codeOf l) → shapeAmong l c ≡ free
 none-among before [] c p = refl
 none-among before (s ∷ l) c p =
-    rw (ne-eqb c (codeOf s) (past-before (before × (c ≡ codeOf s → ⊥)) c (map codeOf l) p .1))
+    rw (ne-eqb c (codeOf s) (past-before (before × (c ≡ codeOf s → ⊥)) c (alone (map codeOf l)) p .1))
     (none-among (before × (c ≡ codeOf s → ⊥)) l c p)
 
 -- the shapes that have a form of their own, in the order of their codes

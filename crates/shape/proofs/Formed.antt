@@ -41,10 +41,6 @@ module _ (n code : ℕ) (is : code ≡ codeOf (shapeOf n)) where
   pub code-shape : shapeBy code ≡ shapeOf n
   code-shape = ap shapeBy is ∙ shape-back n
 
-  -- an arm of a match on the code has the shape of its key
-  pub arm-shape : (key : ℕ) → code ≡ key → shapeOf n ≡ shapeBy key
-  arm-shape key e = sym code-shape ∙ ap shapeBy e
-
 module _ (n : ℕ) (v : List ℕ) (code : ℕ) (is : code ≡ codeOf (shapeOf n)) where
   pub form-without : code / 10 < 2 → form n v ≡ cond (isPlain n) 0 1
   unfolding form decodes

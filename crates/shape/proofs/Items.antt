@@ -2,7 +2,7 @@
 -- that is meant. Assumes nothing.
 use mathlib.Core.Path.{_≡_, refl, sym, ap, subst, _∙_}
 use mathlib.Core.Bool.{Bool, true, false, cond}
-use mathlib.Core.List.{List, map}
+use mathlib.Core.List.{List}
 use Prim.Native.Nat.{ℕ, _+_, _-_, _/_, _%_, _<_, _≤_}
 use native.Mathlib.Omega.{arith}
 use lib.Dec.{T, eqb, leb, eqb→eq, leb→le}
@@ -25,9 +25,9 @@ use Rattle.shape.specs.declared.Value.the-variants as is
 use Rattle.shape.specs.declared.Item.{Item}
 use Rattle.shape.specs.Codes.{codeOf, shapeBy}
 use Rattle.shape.specs.Items.{valueBy, digitsBy, undigited, rawItem, itemFor, itemAt}
-use Rattle.shape.proofs.Codes.{fifteen, at-most-fifteen, Past, ownForms, no-form}
+use Rattle.shape.proofs.Codes.{fifteen, at-most-fifteen}
 use Rattle.shape.proofs.Meeting.{digits-all}
-use Rattle.shape.proofs.Formed.{One, Formed, formed-as, form-own, form-raw, own-form, code-shape, form-without, form-missed, form-met, text-size, profile-size}
+use Rattle.shape.proofs.Formed.{One, Formed, formed-as, form-own, form-raw, own-form, form-without, form-missed, form-met, text-size, profile-size}
 
 -- a value that stands as it is is stored so
 stored-raw : (b : Bool) (c : ℕ) (v s : List ℕ) → Formed c (cond b 0 1) v s → s ≡ v
@@ -152,11 +152,9 @@ module _ (n : ℕ) (v : List ℕ) (p : Part) where
       item-octet x xs =
           undigited-is 7 1 (is.Number x) single refl (ap length (told .octet)) (rw (told .octet) (ap is.Number (omega (arith, xs))))
 
--- a number whose code no arm has
-pub item-raw : (n : ℕ) (v : List ℕ) (p : Part) (code : ℕ) → code ≡ codeOf (shapeOf n) → Past (Unit {0}) code (map codeOf ownForms) → rawItem n (length v) p ≡ itemFor n v p
-item-raw n v p code code-is w =
-    let none : formOf (shapeOf n) ≡ 0 = rw (code-shape n code code-is) at (no-form code w) in
-    raw-is n v p (form-without n v code code-is (omega (arith, none, own-form n code code-is)))
+-- a number whose shape has no form of its own
+pub item-raw : (n : ℕ) (v : List ℕ) (p : Part) → formOf (shapeOf n) ≡ 0 → rawItem n (length v) p ≡ itemFor n v p
+item-raw n v p none = raw-is n v p (form-without n v (codeOf (shapeOf n)) refl (omega (arith, own-form n (codeOf (shapeOf n)) refl)))
 
 -- the octets v are the part p of the area
 pub item-there : (area : List ℕ) (n : ℕ) (p : Part) (v : List ℕ) → v ≡ partOf area (p .start) (p .len) → itemFor n v p ≡ itemAt area n p

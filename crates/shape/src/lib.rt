@@ -187,11 +187,31 @@ fn meets_code(code: u8, value: &[u8]) -> bool
     }
 }
 
-// Whether a value meets the shape of a carried number.
+// Whether a value meets the shape of a carried number. Here and in `item_of` the even and the odd numbers of a shape have an arm each:
+// neighbours in one arm would be tested as a range, behind all the others.
 pub fn meets(number: u16, value: &[u8]) -> bool
     ensures { λ r. ⌜ r ≡ meant.meets (shapeOf number) (now (value .entry)) ⌝ }
 {
-    meets_code(code_of(number), value)
+    match number {
+        1 | 25 => 1 <= value.len(),
+        18 | 24 | 30 | 32 => 1 <= value.len(),
+        60 => 5 <= value.len(),
+        3 => value.len() == 17,
+        2 => meets_blocks(value),
+        6 | 40 | 42 | 46 | 48 | 258 => value.len() == 4,
+        7 | 41 | 43 | 45 | 47 | 49 | 61 | 259 => value.len() == 4,
+        4 | 8 | 260 | 262 => value.len() == 4,
+        9 | 263 => value.len() == 4,
+        31 | 257 => meets_digits(value, 1, 15),
+        264 | 274 => meets_digits(value, 5, 6),
+        265 => meets_digits(value, 5, 6),
+        44 => meets_hex(value, 16),
+        261 => meets_qos(value),
+        266 => meets_hex(value, 1),
+        267 => value.len() == 1,
+        268 => meets_digits(value, 1, 1),
+        _ => true,
+    }
 }
 
 // "otherwise form 0 (plain) or 1 (3GPP)"
@@ -340,16 +360,19 @@ fn octet_item(code: u8, number: u16, v: &[u8], value: area::Part) -> Item
 pub fn item_of(v: &[u8], number: u16, value: area::Part) -> Item
     ensures { λ r. ⌜ r ≡ itemFor number (now (v .entry)) value ⌝ }
 {
-    match code_of(number) {
-        20 => number_item(number, v, value),
-        30 => address_item(number, v, value),
-        40 => digits_item(number, v, value, 1, 15),
-        41 => digits_item(number, v, value, 5, 6),
-        50 => hex_item(number, v, value),
-        60 => qos_item(number, v, value),
-        70 => octet_item(70, number, v, value),
-        71 => octet_item(71, number, v, value),
-        72 => octet_item(72, number, v, value),
+    match number {
+        6 | 40 | 42 | 46 | 48 | 258 => number_item(number, v, value),
+        7 | 41 | 43 | 45 | 47 | 49 | 61 | 259 => number_item(number, v, value),
+        4 | 8 | 260 | 262 => address_item(number, v, value),
+        9 | 263 => address_item(number, v, value),
+        31 | 257 => digits_item(number, v, value, 1, 15),
+        264 | 274 => digits_item(number, v, value, 5, 6),
+        265 => digits_item(number, v, value, 5, 6),
+        44 => hex_item(number, v, value),
+        261 => qos_item(number, v, value),
+        266 => octet_item(70, number, v, value),
+        267 => octet_item(71, number, v, value),
+        268 => octet_item(72, number, v, value),
         _ => raw_item(number, v.len(), value),
     }
 }

@@ -5,6 +5,7 @@ use mathlib.Core.List.{[], _∷_}
 use native.Mathlib.Omega.{arith}
 use Rattle.meaning.specs.Shapes.{hexDigit, anyOctet, decimalDigit, shapeOf, plainShape, gppShape}
 use Rattle.meaning.specs.Sheet.{formOf}
+use Rattle.shape.proofs.Codes.{alone}
 use Rattle.shape.proofs.Coded.{past-not-in}
 use Rattle.item.proofs.Held.{octet-held, hex-digit-held, decimal-digit-held}
 use Rattle.item.proofs.Shaping.{form-not-from, shaped-not, shaped-as}
@@ -31,7 +32,7 @@ returns-3 c = c .holds-one2 .ensures ∙ sym (decimal-digit-held _ _) ∙ shaped
 
 returns-4 : tie.Need-returns-4
 unfolding shapeOf plainShape gppShape formOf
-returns-4 c = shaped-not _ 7 _ _ (form-not-from 7 0 (266 ∷ 267 ∷ 268 ∷ []) tt tt (c .before .before .args .number) (past-not-in (Unit {0}) _ (266 ∷ 267 ∷ 268 ∷ []) (c .match .rest)) (omega arith))
+returns-4 c = shaped-not _ 7 _ _ (form-not-from 7 0 (266 ∷ 267 ∷ 268 ∷ []) tt tt (c .before .before .args .number) (past-not-in (Unit {0}) _ (alone (266 ∷ 267 ∷ 268 ∷ [])) (c .match .rest)) (omega arith))
 
 pub is-octet-spec : {M : Type 1} → statement M
 is-octet-spec = tie.close (tie.spec holds-one-requires holds-one-requires-2 returns returns-2 returns-3 returns-4)
