@@ -15,7 +15,7 @@ use Rattle.meaning.proofs.Tests.{left-or, is-true}
 use Rattle.shape.specs.Codes.{codeOf, shapes, shapeBy}
 use Rattle.shape.proofs.Codes.{each, every-shape, Past, alone}
 use Rattle.shape.proofs.Coded.{past-not-in, passesIn, passes-in, passes-from}
-use Rattle.shape.proofs.Formed.{arm-shape}
+use Rattle.shape.proofs.Formed.{code-shape}
 use Rattle.item.specs.Stands.{held, shaped}
 
 -- ---- The numbers of a form
@@ -60,7 +60,7 @@ form-of-one f k own o t n = go (eqb n k) refl
 -- the numbers from one to below another have the shape of a code
 pub shape-here : (code from to : ℕ) → T (passesIn (λ s. eqb (codeOf s) code) [] from to) → (n : ℕ) → from ≤ n → n < to → shapeOf n ≡ shapeBy code
 shape-here code from to t n low high =
-    arm-shape n (codeOf (shapeOf n)) refl code (eqb→eq (codeOf (shapeOf n)) code (passes-in (λ (s : Shape). eqb (codeOf s) code) [] from to t n refl low high))
+    sym (code-shape n code (sym (eqb→eq (codeOf (shapeOf n)) code (passes-in (λ (s : Shape). eqb (codeOf s) code) [] from to t n refl low high))))
 
 -- ---- Octets in a form
 
@@ -85,7 +85,7 @@ module _ (n f c : ℕ) (st : List ℕ) where
       let u : has f (shapeOf n) ≡ true = sym e in
       let own : formOf (shapeOf n) ≡ f = eqb-true (formOf (shapeOf n)) f u in
       let one : T (eqb (codeOf (shapeOf n)) code) = subst (λ (x : Bool). T (not x || eqb (codeOf (shapeOf n)) code)) u (every-shape (λ (s : Shape). hasNot f s || eqb (codeOf s) code) (left-or (hasNot f free) (eqb (codeOf free) code) o) a n) in
-      let is : shapeOf n ≡ shapeBy code = arm-shape n (codeOf (shapeOf n)) refl code (eqb→eq (codeOf (shapeOf n)) code one) in
+      let is : shapeOf n ≡ shapeBy code = sym (code-shape n code (sym (eqb→eq (codeOf (shapeOf n)) code one))) in
       h ∙ shaped-as (shapeBy code) is (ap formOf (sym is) ∙ own)
   shaped-alone code false t o a e h = shaped-not e
 
