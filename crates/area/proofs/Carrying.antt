@@ -10,13 +10,13 @@ use lib.ListN.{length, take, drop, getD, length-drop}
 use lib.Seq.{drop-drop, getD-drop}
 use borrow.Author.Tests.{lt-ltb, le-ltb, eq-eqb, ne-eqb, eqb-true}
 use Rattle.meaning.specs.Octets.{Octets, numberOf}
-use Rattle.meaning.specs.Framing.{gpp, isPlain, Found, attribute, refused, nothing, oneSub, vendorFound, found, foundAt, broken, walkAt}
+use Rattle.meaning.specs.Framing.{headLength, gpp, isPlain, Found, attribute, refused, nothing, oneSub, vendorFound, found, foundAt, broken, walkAt}
 use Rattle.meaning.specs.Refusals.{none, fault}
 use Rattle.meaning.proofs.Octets.{octets-drop}
 use Rattle.meaning.proofs.Framing.{FoundIn, found-in}
 use Rattle.meaning.proofs.Walks.{walk-broken}
 use Rattle.octets.specs.Parts.{partOf}
-use Rattle.area.specs.Answers.{stepOf, headLength, numberAt, carriedAs, carriedAt}
+use Rattle.area.specs.Answers.{stepOf, numberAt, carriedAs, carriedAt}
 use Rattle.area.specs.declared.Carried.{Carried}
 use Rattle.area.specs.declared.Part.{Part}
 use Rattle.area.specs.declared.Step.{Step}

@@ -7,7 +7,7 @@ use lib.Dec.{eqb, ltb}
 use lib.ListN.{length, getD}
 use Rattle.meaning.specs.Octets.{numberOf}
 use Rattle.meaning.specs.Jobs.{isKind, areFlags}
-use Rattle.meaning.specs.Framing.{gpp, isPlain, vendor3gpp, Found, attribute, refused, nothing, Walk, walk, attributes}
+use Rattle.meaning.specs.Framing.{headLength, gpp, vendor3gpp, Found, attribute, refused, nothing, Walk, walk, attributes}
 use Rattle.octets.specs.Parts.{partOf}
 use Rattle.meaning.specs.Refusals as book
 use Rattle.area.specs.declared.Refusal.{Refusal}
@@ -29,11 +29,6 @@ stepOf p nothing = End
 abbrev pub inBook : Refusal → book.Refusal
 inBook r = book.refusal (r .number) (r .second)
 
--- the refusal that the framing of an area gives, if any
-abbrev pub faultOf : Framing → book.Refusal
-faultOf (Whole n) = book.none
-faultOf (Broken r) = inBook r
-
 -- the refusal, or the number of attributes where there is none
 abbrev pub framingFrom : book.Refusal → (count : ℕ) → Framing
 framingFrom book.none n = Whole n
@@ -53,14 +48,6 @@ unfoldable pub arrivalOf : (kind flags length : ℕ) → Arrival
 arrivalOf kind flags length =
     arrivalFrom
     (book.first (book.when (not (isKind kind)) 1 0) (book.first (book.when (not (areFlags flags)) 2 0) (book.tooLong 3 length)))
-
--- an area that comes with kind and flags, by the first of 1 to 8 that applies
-unfoldable pub admittedOf : (kind flags : ℕ) → List ℕ → Framing
-admittedOf kind flags area = framingFrom (book.areaRefusal kind flags area) (length (attributes (walk area)))
-
--- the octets before the value of an attribute that carries a number
-unfoldable pub headLength : (number : ℕ) → ℕ
-headLength n = cond (isPlain n) 2 8
 
 -- the number that is carried at a place: of type 26 with vendor 10415 the sub-attribute's, else the type
 unfoldable pub numberAt : List ℕ → (place : ℕ) → ℕ

@@ -3,9 +3,9 @@ ghost use mathlib.Core.Path.{_≡_};
 ghost use Prim.Native.Nat.{_+_, _-_, _^_, _<_, _≤_};
 ghost use lib.ListN.{length, drop};
 ghost use Rattle.meaning.specs.Jobs.{isKind, areFlags};
-ghost use Rattle.meaning.specs.Framing.{vendorFound, foundAt, walk};
+ghost use Rattle.meaning.specs.Framing.{headLength, vendorFound, foundAt, walk};
 ghost use Rattle.meaning.specs.Framing as meant;
-ghost use Rattle.area.specs.Answers.{stepOf, framingOf, headLength, numberAt, carriedAt, arrivalOf, admittedOf};
+ghost use Rattle.area.specs.Answers.{stepOf, framingOf, numberAt, carriedAt, arrivalOf};
 
 // A refusal of the book: its number and its second number.
 pub struct Refusal {
@@ -262,18 +262,4 @@ pub fn arrive(area: &[u8], kind: u32, flags: u32) -> Arrival
         });
     }
     Arrival::Fit
-}
-
-// The framing of an area that comes with kind and flags: the first of refusals 1 to 8 that applies, or how many attributes it has.
-pub fn admit(area: &[u8], kind: u32, flags: u32) -> Framing
-    ensures { λ r. ⌜ r ≡ admittedOf kind flags (now (area .entry)) ⌝ }
-{
-    match arrive(area, kind, flags) {
-        Arrival::Refused(refusal) => {
-            return Framing::Broken(refusal);
-        }
-        Arrival::Fit => {
-            return survey(area);
-        }
-    }
 }

@@ -18,7 +18,7 @@ use Rattle.octets.proofs.Overs.{over-none}
 use Rattle.area.specs.declared.Refusal.{Refusal}
 use Rattle.area.specs.declared.Arrival.the-variants.{Fit}
 use Rattle.area.specs.Answers.{inBook, arrivalOf}
-use Rattle.area.proofs.Admitted.{Arrived, fit-arrived}
+use Rattle.area.proofs.Arriving.{Arrived, fit-arrived}
 use Rattle.breach.specs.declared.Checking.the-variants as is
 use Rattle.breach.specs.declared.Tally.{Tally}
 use Rattle.breach.specs.declared.Tally.the-variants.{Whole, Broken}

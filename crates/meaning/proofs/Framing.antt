@@ -10,7 +10,7 @@ use borrow.Author.Tests.{lt-ltb, le-ltb, le-leb, eq-eqb, ne-eqb, ltb-false, leb-
 use lib.ListN.{length, take, drop, getD, length-append, length-drop}
 use lib.Seq.{length-take-le, take-take, take-at, take-append-le}
 use Rattle.meaning.specs.Octets.{Octets, numberOf}
-use Rattle.meaning.specs.Framing.{gpp, isPlain, Found, attribute, refused, nothing, oneSub, vendorFound, found}
+use Rattle.meaning.specs.Framing.{gpp, isPlain, headLength, Found, attribute, refused, nothing, oneSub, vendorFound, found}
 use Rattle.meaning.specs.Sheet.{attributeOctets, carries}
 use Rattle.meaning.proofs.Tests.{parts, is-true}
 use Rattle.meaning.proofs.Octets.{octet-at}
@@ -143,10 +143,6 @@ found-in (t ∷ n ∷ r) o = go (ltb n 2) (ltb (length r + 2) n) (eqb t 26) refl
 
 -- ---- The way back
 
--- the octets before an attribute's value
-abbrev pub headOf : (number : ℕ) → ℕ
-headOf n = cond (isPlain n) 2 8
-
 pub plain-lines : (t : ℕ) (v : List ℕ) → isPlain t ≡ true → T (carries t v) → T (leb (length v) 253 && (not (eqb t 26) || (leb 5 (length v) && not (eqb (numberOf (take 4 v)) 10415))))
 unfolding carries
 plain-lines t v p c = rw p at c
@@ -178,8 +174,8 @@ module _ (v rest : List ℕ) where
       rw (le-ltb (length v + 8) 2 (omega arith), le-ltb (suc (suc (suc (suc (suc (suc (length (v ++ rest))))))) + 2) (length v + 8) (omega (arith, behind)), le-ltb (length v + 8) 7 (omega arith), le-leb 2 (length v + 2) (omega arith), le-leb (length v + 2) 248 (omega arith), eq-eqb (length v + 2) (length v + 8 - 6) (omega arith))
 
 -- The octets of a carried attribute, whatever follows, are found as that attribute.
-pub carried-found : (n : ℕ) (v rest : List ℕ) → T (carries n v) → found (attributeOctets n v ++ rest) ≡ attribute n (headOf n) (length (attributeOctets n v))
-unfolding attributeOctets
+pub carried-found : (n : ℕ) (v rest : List ℕ) → T (carries n v) → found (attributeOctets n v ++ rest) ≡ attribute n (headLength n) (length (attributeOctets n v))
+unfolding attributeOctets headLength
 carried-found n v rest c = go (isPlain n) refl
   where
     two : length v + 2 ≡ suc (suc (length v))
@@ -205,8 +201,8 @@ carried-found n v rest c = go (isPlain n) refl
         gpp-back v rest (n - 256) (gpp-lines n v p c) ∙ rw (e, eight)
 
 -- and its value is the attribute's value
-pub carried-value : (n : ℕ) (v rest : List ℕ) → take (length (attributeOctets n v) - headOf n) (drop (headOf n) (attributeOctets n v ++ rest)) ≡ v
-unfolding attributeOctets
+pub carried-value : (n : ℕ) (v rest : List ℕ) → take (length (attributeOctets n v) - headLength n) (drop (headLength n) (attributeOctets n v ++ rest)) ≡ v
+unfolding attributeOctets headLength
 carried-value n v rest = go (isPlain n)
   where
     go : (b : Bool) → take (length (cond b (n ∷ (length v + 2) ∷ v) (26 ∷ (length v + 8) ∷ 0 ∷ 0 ∷ 40 ∷ 175 ∷ (n - 256) ∷ (length v + 2) ∷ v)) - cond b 2 8) (drop (cond b 2 8) (cond b (n ∷ (length v + 2) ∷ v) (26 ∷ (length v + 8) ∷ 0 ∷ 0 ∷ 40 ∷ 175 ∷ (n - 256) ∷ (length v + 2) ∷ v) ++ rest)) ≡ v

@@ -8,12 +8,12 @@ use lib.Dec.{T}
 use lib.ListN.{length, take, drop, take-append-drop}
 use lib.Seq.{drop-at}
 use Rattle.meaning.specs.Octets.{Octets}
-use Rattle.meaning.specs.Framing.{Attribute, Found, attribute, refused, nothing, found, Walk, next, onward, from, attributes}
+use Rattle.meaning.specs.Framing.{headLength, Attribute, Found, attribute, refused, nothing, found, Walk, next, onward, from, attributes}
 use Rattle.meaning.specs.Refusals.{none, refusal, fault}
 use Rattle.meaning.specs.Sheet.{item, itemsOf, attributeOctets, areaOf, carries, Entered, holds, entered, onItem, items}
 use Rattle.meaning.proofs.Walks.{from-attribute}
 use Rattle.meaning.proofs.Octets.{octets-take, octets-drop}
-use Rattle.meaning.proofs.Framing.{FoundIn, found-in, carried-found, carried-value, headOf}
+use Rattle.meaning.proofs.Framing.{FoundIn, found-in, carried-found, carried-value}
 use Rattle.meaning.proofs.Forms.{octets-from-stored}
 use Rattle.meaning.proofs.Items.{item-entered, entered-holds}
 
@@ -66,7 +66,7 @@ unfolding from areaOf attributes fault itemsOf
 reread p [] c = record { sound = refl; as-many = refl; same-items = refl }
 reread p (a ∷ l) c =
     let d : List ℕ = attributeOctets (a .number) (a .value) in
-    let e = from-attribute p (d ++ areaOf l) (a .number) (headOf (a .number)) (length d) (carried-found (a .number) (a .value) (areaOf l) (c .0 .carried)) in
+    let e = from-attribute p (d ++ areaOf l) (a .number) (headLength (a .number)) (length d) (carried-found (a .number) (a .value) (areaOf l) (c .0 .carried)) in
     let e′ : from 0 p (d ++ areaOf l) ≡ next (record { place = p; number = a .number; value = a .value }) (from 0 (p + length d) (areaOf l)) = e ∙ rw (carried-value (a .number) (a .value) (areaOf l), drop-at d (areaOf l) (length d) refl) in
     let r = reread (p + length d) l (c .1) in
     record {

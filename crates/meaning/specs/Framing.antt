@@ -14,6 +14,10 @@ gpp s = 256 + s
 abbrev pub isPlain : ℕ → Bool
 isPlain n = ltb n 256
 
+-- the octets before the value of an attribute that carries a number: type and length, and of a 3GPP one also vendor, s and m
+unfoldable pub headLength : (number : ℕ) → ℕ
+headLength n = cond (isPlain n) 2 8
+
 -- "An attribute is type, length, value": where it stands, the number it carries, its value
 pub record Attribute : Type 0 where
   pub place : ℕ

@@ -17,7 +17,7 @@ use Rattle.octets.proofs.Overs.{over-front, laid-first, laid-behind}
 use Rattle.area.specs.declared.Refusal.{Refusal}
 use Rattle.area.specs.declared.Arrival.the-variants.{Fit}
 use Rattle.area.specs.Answers.{inBook, arrivalOf}
-use Rattle.area.proofs.Admitted.{fit-arrived}
+use Rattle.area.proofs.Arriving.{fit-arrived}
 use Rattle.sheet.specs.declared.Reading.the-variants.{Sheet, Refused}
 use Rattle.sheet.specs.declared.Tally.{Tally}
 use Rattle.sheet.specs.declared.Tally.the-variants.{Whole, Broken}

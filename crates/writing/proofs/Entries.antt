@@ -8,7 +8,7 @@ use lib.Dec.{T, leb, leb→le}
 use lib.ListN.{length, drop, getD, length-drop, length-append}
 use lib.Seq.{length-take-le}
 use Rattle.meaning.specs.Octets.{Octets}
-use Rattle.meaning.specs.Framing.{isPlain}
+use Rattle.meaning.specs.Framing.{isPlain, headLength}
 use Rattle.meaning.specs.Sheet.{attributeOctets, carries, numberIn, storedLength, holds}
 use Rattle.meaning.proofs.Octets.{octet-at, octets-take, octets-drop}
 use Rattle.meaning.proofs.Tests.{parts}
@@ -17,7 +17,6 @@ use Rattle.meaning.proofs.Items.{Accepted, entered-holds}
 use Rattle.octets.specs.Parts.{partOf}
 use Rattle.item.specs.Answers.{enteredAt}
 use Rattle.item.proofs.Entering.{found-item}
-use Rattle.area.specs.Answers.{headLength}
 use Rattle.writing.specs.Attributes.{valueLength, valueAs, attributeHead, Written}
 use Rattle.writing.proofs.Values.{shown}
 

@@ -7,7 +7,7 @@ use lib.ListN.{length, take, drop, length-append, length-take}
 use Rattle.meaning.specs.Octets.{Octets, numberOf}
 use Rattle.meaning.proofs.Numbers.{number-fits}
 use Rattle.meaning.proofs.Octets.{octets-take, octets-drop}
-use Rattle.meaning.specs.Framing.{Walk, next, attributes}
+use Rattle.meaning.specs.Framing.{Walk, next, attributes, headLength}
 use Rattle.meaning.specs.Refusals.{none, refusal, fault}
 use Rattle.meaning.specs.Sheet.{attributeOctets, areaOf, itemsIn}
 use Rattle.area.specs.declared.Refusal.{Refusal}
@@ -17,7 +17,6 @@ use Rattle.item.specs.declared.Entered.the-variants.{Item, Refused}
 use Rattle.item.specs.Answers.{enteredAt, enteredOf}
 use Rattle.item.proofs.Entering.{AnItem, an-item, a-refusal}
 use Rattle.writing.specs.declared.Judged.the-variants.{Items, Broken}
-use Rattle.area.specs.Answers.{headLength}
 use Rattle.writing.specs.Attributes.{valueLength}
 use Rattle.writing.specs.Answers.{judgedOf}
 use Rattle.writing.proofs.Entries.{Entry, entry-at, entry-long}

@@ -6,7 +6,7 @@ use Prim.Native.Nat.{ℕ, _+_, _-_, _<_, _≤_}
 use native.Mathlib.Omega.{arith}
 use lib.ListN.{length, take, drop, getD, length-append}
 use Rattle.meaning.specs.Octets.{Octets, numberOf}
-use Rattle.meaning.specs.Framing.{Walk, next, attributes}
+use Rattle.meaning.specs.Framing.{Walk, next, attributes, headLength}
 use Rattle.meaning.specs.Refusals.{none, fault}
 use Rattle.meaning.specs.Sheet.{attributeOctets, areaOf, holds, refused, areaIn, numberIn, storedLength, items}
 use Rattle.meaning.specs.Sheet as meant
@@ -16,7 +16,6 @@ use Rattle.octets.specs.Parts.{partOf, laidAt}
 use Rattle.octets.proofs.Overs.{over-none, laid-behind}
 use Rattle.item.specs.Answers.{enteredAt}
 use Rattle.item.proofs.Entering.{stored-part}
-use Rattle.area.specs.Answers.{headLength}
 use Rattle.writing.specs.Attributes.{valueLength, valueAs, Written}
 use Rattle.writing.specs.Answers as answers
 use Rattle.writing.proofs.Entries.{Entry, entry-at, entry-long}

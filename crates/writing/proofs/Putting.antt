@@ -18,7 +18,7 @@ use Rattle.octets.proofs.Overs.{each-laid, laid-two}
 use Rattle.octets.proofs.Unpacking.{packed-decimals}
 use Rattle.shape.specs.Codes.{codeOf}
 use Rattle.item.proofs.Texts.{whole-length}
-use Rattle.area.specs.Answers.{headLength}
+use Rattle.meaning.specs.Framing.{headLength}
 use Rattle.writing.specs.Attributes.{valueLength, attributeHead, profileText, valueAs, Written}
 use Rattle.writing.proofs.Entries.{attribute-parts, head-long}
 

@@ -7,11 +7,10 @@ use mathlib.Core.List.{List, [], _∷_}
 use lib.Dec.{eqb}
 use lib.ListN.{length, drop, getD}
 use Rattle.meaning.specs.Octets.{digitText, text, unpack}
-use Rattle.meaning.specs.Framing.{isPlain}
+use Rattle.meaning.specs.Framing.{isPlain, headLength}
 use Rattle.meaning.specs.Shapes.{shapeOf}
 use Rattle.meaning.specs.Sheet.{storedLength}
 use Rattle.octets.specs.DigitStrings.{packedDigits}
-use Rattle.area.specs.Answers.{headLength}
 use Rattle.shape.specs.Codes.{codeOf}
 
 -- the octets of the value that an item of this form and count stands for

@@ -12,7 +12,7 @@ ghost use Rattle.meaning.specs.Shapes.{shapeOf};
 ghost use Rattle.meaning.specs.Sheet.{attributeOctets, itemsIn, areaIn, marked};
 ghost use Rattle.meaning.specs.Answers.{over};
 ghost use Rattle.octets.specs.Parts.{laidAt};
-ghost use Rattle.area.specs.Answers.{headLength};
+ghost use Rattle.meaning.specs.Framing.{headLength};
 ghost use Rattle.shape.specs.Codes.{codeOf};
 ghost use Rattle.writing.specs.Attributes.{valueLength, profileText, valueAs, attributeHead, Written};
 ghost use Rattle.writing.specs.Answers.{judgedOf, Accepted, Ready, Wrote};

@@ -2,7 +2,7 @@
 use borrow.Author.Needs.{needs}
 use borrow.Author.Tests.{not-true, not-false}
 use mathlib.Core.Path.{sym, _∙_}
-use Rattle.area.proofs.Admitted.{bad-kind, bad-flags, too-long, all-fit}
+use Rattle.area.proofs.Arriving.{bad-kind, bad-flags, too-long, all-fit}
 use Rattle.area.proofs.arrive.Statement.{statement}
 use Rattle.area.proofs.arrive.Tie as tie
 

@@ -1,7 +1,7 @@
 -- `breach::check` meets its contract. Assumes nothing.
 use borrow.Author.Needs.{needs}
 use mathlib.Core.Path.{sym, _∙_}
-use Rattle.area.proofs.Admitted.{refused-first}
+use Rattle.area.proofs.Arriving.{refused-first}
 use Rattle.breach.proofs.Whole.{refused-checked}
 use Rattle.breach.proofs.check.Statement.{statement}
 use Rattle.breach.proofs.check.Tie as tie

@@ -2,7 +2,7 @@
 use borrow.Author.Needs.{needs}
 use mathlib.Core.Path.{refl}
 use native.Mathlib.Omega.{arith}
-use Rattle.area.proofs.Admitted.{fit-arrived}
+use Rattle.area.proofs.Arriving.{fit-arrived}
 use Rattle.sheet.proofs.lay_somewhere.Statement.{statement}
 use Rattle.sheet.proofs.lay_somewhere.Tie as tie
 

@@ -1,7 +1,7 @@
 -- `sheet::read` meets its contract. Assumes nothing.
 use borrow.Author.Needs.{needs}
 use mathlib.Core.Path.{sym, _∙_}
-use Rattle.area.proofs.Admitted.{refused-first}
+use Rattle.area.proofs.Arriving.{refused-first}
 use Rattle.sheet.proofs.Whole.{refused-read}
 use Rattle.sheet.proofs.read.Statement.{statement}
 use Rattle.sheet.proofs.read.Tie as tie

@@ -4,7 +4,7 @@ use native.Mathlib.Omega.{arith}
 use Prim.Native.Nat.{_+_, _<_}
 use Rattle.area.proofs.Steps.{slice-octets}
 use Rattle.meaning.specs.Octets.{Octets}
-use Rattle.area.specs.Answers.{headLength}
+use Rattle.meaning.specs.Framing.{headLength}
 use Rattle.writing.specs.Attributes.{valueLength}
 use Rattle.writing.proofs.Judging.{Judging, judging-none, judging-more, judging-refused, judging-remains, judging-done, sum-low, announced-low}
 use Rattle.writing.proofs.judge.Statement.{statement}

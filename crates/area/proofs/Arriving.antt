@@ -11,11 +11,10 @@ use borrow.Author.Tests.{lt-ltb, le-ltb, ltb-false}
 use Rattle.meaning.specs.Jobs.{isKind, areFlags}
 use Rattle.meaning.specs.Framing.{walk}
 use Rattle.meaning.specs.Refusals.{refusal, when, first, fault, areaRefusal}
-use Rattle.area.specs.Answers.{arrivalFrom, arrivalOf, framingOf, admittedOf}
+use Rattle.area.specs.Answers.{arrivalFrom, arrivalOf}
 use Rattle.area.specs.declared.Refusal.{Refusal}
 use Rattle.area.specs.declared.Arrival.{Arrival}
 use Rattle.area.specs.declared.Arrival.the-variants.{Fit, Refused}
-use Rattle.area.specs.declared.Framing.the-variants.{Broken}
 
 -- ---- One law for each answer
 
@@ -67,14 +66,3 @@ module _ (kind flags : ℕ) (area : List ℕ) (r : Arrival) (says : r ≡ arriva
       go true false t e = cc
       go true true true e = cc
       go true true false e = absurd (let w : _≡_ {A = ℕ} 0 1 = cc in omega arith)
-
--- ---- The answers of `admit`
-
-module _ (kind flags : ℕ) (area : List ℕ) where
-  pub arrival-refused : (refused : Refusal) → areaRefusal kind flags area ≡ refusal (refused .number) (refused .second) → Broken refused ≡ admittedOf kind flags area
-  unfolding admittedOf
-  arrival-refused refused e = rw e
-
-  pub arrival-framed : Arrived kind flags area → framingOf (walk area) ≡ admittedOf kind flags area
-  unfolding admittedOf framingOf
-  arrival-framed a = rw (a .left)
