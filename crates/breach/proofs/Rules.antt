@@ -17,21 +17,15 @@ use Rattle.breach.proofs.Rows.{known-kind}
 
 -- ---- Rule 3
 
-module _ (seen : Bool) (n place : ℕ) where
-  -- the number was not seen
-  pub end-unseen : seen ≡ false → 0 ≡ searchEnd seen n place
+-- the number stands once only, or may stand again
+module _ (n place : ℕ) (once : Bool) (o : once ≡ onceOnly n) where
+  pub end-at-place : once ≡ true → place ≡ searchEnd n place
   unfolding searchEnd
-  end-unseen s = rw s
+  end-at-place e = rw (sym o ∙ e)
 
-  -- it was seen, and stands once only or may stand again
-  module _ (once : Bool) (s : seen ≡ true) (o : once ≡ onceOnly n) where
-    pub end-at-place : once ≡ true → place ≡ searchEnd seen n place
-    unfolding searchEnd
-    end-at-place e = rw (s, sym o ∙ e)
-
-    pub end-at-once : once ≡ false → 0 ≡ searchEnd seen n place
-    unfolding searchEnd
-    end-at-once e = rw (s, sym o ∙ e)
+  pub end-at-once : once ≡ false → 0 ≡ searchEnd n place
+  unfolding searchEnd
+  end-at-once e = rw (sym o ∙ e)
 
 -- ---- Rule 4
 

@@ -53,18 +53,18 @@ pub record Looking (l : List ℕ) (n place end before : ℕ) : Type 0 where
   pub ahead : Reaches l before rest end
   pub left : onceOnly n && isIn n seen ≡ isIn n rest
 
--- The search goes to the place, or ends at once where the number was not noted or may stand again.
-pub looking-start : (l : List ℕ) (noted : Bool) (n : ℕ) (seen : List ℕ) (place end : ℕ) → end ≡ searchEnd noted n place → Reaches l 0 seen place → noted ≡ isIn n seen → Looking l n place end 0
-unfolding searchEnd
-looking-start l noted n seen place end e r says = rw e (go noted (onceOnly n) refl refl)
-  where
-    nothing : onceOnly n && isIn n seen ≡ false → Looking l n place 0 0
-    nothing h = record { seen = seen; reached = r; rest = []; ahead = refl; left = h }
+-- A number that was not noted does not break rule 3, so that it needs no search.
+pub looking-unseen : (n : ℕ) (noted : Bool) (seen : List ℕ) → noted ≡ isIn n seen → noted ≡ false → false ≡ onceOnly n && isIn n seen
+looking-unseen n noted seen says e = sym (ap (λ (x : Bool). onceOnly n && x) (sym says ∙ e) ∙ and-false (onceOnly n))
 
-    go : (a b : Bool) → noted ≡ a → onceOnly n ≡ b → Looking l n place (cond (a && b) place 0) 0
-    go true true p o = record { seen = seen; reached = r; rest = seen; ahead = r; left = rw o }
-    go true false p o = nothing (rw o)
-    go false b p o = nothing (ap (λ (x : Bool). onceOnly n && x) (sym says ∙ p) ∙ and-false (onceOnly n))
+-- The search goes to the place, or ends at once where the number may stand again.
+pub looking-start : (l : List ℕ) (n : ℕ) (seen : List ℕ) (place end : ℕ) → end ≡ searchEnd n place → Reaches l 0 seen place → Looking l n place end 0
+unfolding searchEnd
+looking-start l n seen place end e r = rw e (go (onceOnly n) refl)
+  where
+    go : (b : Bool) → onceOnly n ≡ b → Looking l n place (cond b place 0) 0
+    go true o = record { seen = seen; reached = r; rest = seen; ahead = r; left = rw o }
+    go false o = record { seen = seen; reached = r; rest = []; ahead = refl; left = rw o }
 
 module _ (l : List ℕ) (n place end before : ℕ) (k : Looking l n place end before) where
   -- what the search finds is said of any numbers that the walk to the place passes

@@ -47,9 +47,9 @@ pub record PutOf (c : Candidate) (d : List ℕ) (at said : ℕ) (held : List ℕ
 
 -- ---- At an attribute
 
--- rule 3: where the search for an earlier attribute ends; seen says that one carries the number
-unfoldable pub searchEnd : (seen : Bool) (number place : ℕ) → ℕ
-searchEnd seen n place = cond (seen && onceOnly n) place 0
+-- rule 3: where the search for an earlier attribute ends
+unfoldable pub searchEnd : (number place : ℕ) → ℕ
+searchEnd n place = cond (onceOnly n) place 0
 
 -- rules 1 to 4 at an attribute; again says that rule 3 is broken
 unfoldable pub brokenBy : (kind flags : ℕ) (again : Bool) (place number : ℕ) (value : List ℕ) → List Candidate

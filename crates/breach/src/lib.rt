@@ -74,13 +74,10 @@ fn once_only(number: u16) -> bool
                     | (((number == 60) | (number == 61)) | is_listed_3gpp(number)))))
 }
 
-// Where the search for an earlier attribute ends: at the attribute's place, or at once where the number was not seen or may stand again.
-fn search_end(number: u16, place: usize, seen: bool) -> usize
-    ensures { λ r. ⌜ r ≡ searchEnd seen number place ⌝ }
+// Where the search for an earlier attribute ends: at the attribute's place, or at once where the number may stand again.
+fn search_end(number: u16, place: usize) -> usize
+    ensures { λ r. ⌜ r ≡ searchEnd number place ⌝ }
 {
-    if !seen {
-        return 0;
-    }
     if once_only(number) { place } else { 0 }
 }
 
@@ -240,16 +237,18 @@ fn along(
                 next,
             } => {
                 let n = number as usize;
-                let end = search_end(number, place, seen[n]);
                 let mut again = false;
-                let mut before: usize = 0;
-                'search: while before < end {
-                    let earlier = area::carried_at(area, before);
-                    if earlier.number == number {
-                        again = true;
-                        break 'search;
+                if seen[n] {
+                    let end = search_end(number, place);
+                    let mut before: usize = 0;
+                    'search: while before < end {
+                        let earlier = area::carried_at(area, before);
+                        if earlier.number == number {
+                            again = true;
+                            break 'search;
+                        }
+                        before = earlier.next;
                     }
-                    before = earlier.next;
                 }
                 seen[n] = true;
                 let start = value.start;

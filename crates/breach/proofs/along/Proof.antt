@@ -11,17 +11,17 @@ use Rattle.area.proofs.Carrying.{step-carried}
 use Rattle.meaning.specs.Octets.{Octets, isIn}
 use Rattle.meaning.specs.Breaches.{onceOnly}
 use Rattle.breach.proofs.Laying.{laid-kept}
-use Rattle.breach.proofs.Walking.{Looking, looking-start, looking-none, looking-on, looking-found, looking-more}
+use Rattle.breach.proofs.Walking.{Looking, looking-unseen, looking-start, looking-none, looking-on, looking-found, looking-more}
 use Rattle.breach.proofs.Passes.{Passing, passing-none, passing-more, passing-done, passing-broken}
 use Rattle.breach.proofs.along.Statement.{statement}
 use Rattle.breach.proofs.along.Tie as tie
 
 abbrev Inv-search : tie.InvT-search
-Inv-search area codes seen kind flags list place written number value next n end again₀ before₀ again before =
+Inv-search area codes seen kind flags list place written number value next n again₀ end before₀ again before =
     Looking area number place end before × (again ≡ false)
 
 abbrev μ-search : tie.MeasureT-search
-μ-search area codes seen kind flags list place written number value next n end again₀ before₀ again before = end - before
+μ-search area codes seen kind flags list place written number value next n again₀ end before₀ again before = end - before
 
 abbrev Inv-loop : tie.InvT-loop
 Inv-loop area codes seen₀ kind flags list₀ place₀ written₀ seen list place written =
@@ -44,20 +44,20 @@ stands k = step-attribute _ _ _ (k .before .before .before .step-at .ensures) _ 
 low : (k : tie.After-known-told Inv-search μ-search Inv-loop μ-loop) → k .before .number .given .0 .0 < 512
 low k = stands k .carried (octets k) .low
 
--- the attribute that the search has left behind, seen from after it
-abbrev here : (c : tie.Left-search Inv-search μ-search Inv-loop μ-loop) → tie.After-known-told Inv-search μ-search Inv-loop μ-loop
-here c = c .before .before .before .before
+-- the attribute, seen from after the search
+abbrev here : (c : tie.Joined1 Inv-search μ-search Inv-loop μ-loop) → tie.After-known-told Inv-search μ-search Inv-loop μ-loop
+here c = c .before .before
 
--- After the search the flag says whether rule 3 is broken.
-flag : (c : tie.Left-search Inv-search μ-search Inv-loop μ-loop) →
+-- After the search, or without one, the flag says whether rule 3 is broken.
+flag : (c : tie.Joined1 Inv-search μ-search Inv-loop μ-loop) →
     (let n = here c .before .number .given .0 .0 in
-    c .search-test .again ≡ (onceOnly n && isIn n (here c .before .before .before .before .loop .inv .numbers)))
+    c .if1 .again ≡ (onceOnly n && isIn n (here c .before .before .before .before .loop .inv .numbers)))
 flag c =
-    let i = c .before .search .inv in
     let o = here c .before .before .before .before .loop .inv in
-    ⊎-elim (λ w. w .1 ∙ i .1 ∙ looking-none _ _ _ _ _ (i .0) (o .numbers) (o .reaches) (w .0 .left))
-    (λ w. w .4 ∙ looking-found _ _ _ _ _ (i .0) (w .0 .taken) _ (w .1 .ensures) (o .numbers) (o .reaches) (w .3 .taken))
-    (c .search-test .came)
+    ⊎-elim (λ w. w .4 ∙ w .2 .inv .1 ∙ looking-none _ _ _ _ _ (w .2 .inv .0) (o .numbers) (o .reaches) (w .3 .left))
+    (⊎-elim (λ w. w .7 ∙ looking-found _ _ _ _ _ (w .2 .inv .0) (w .3 .taken) _ (w .4 .ensures) (o .numbers) (o .reaches) (w .6 .taken))
+    (λ w. w .1 ∙ looking-unseen _ _ (o .numbers) (o .notes .says _ (low (here c))) (w .0 .left)))
+    (c .if1 .came)
 
 loop-holds : tie.Need-loop-holds Inv-search μ-search Inv-loop μ-loop
 loop-holds c = passing-none _ _ _ _ _ (c .before .before .before .pre .1)
@@ -71,17 +71,16 @@ enum-known-number c = search needs
 cast-n : tie.Need-cast-n Inv-search μ-search Inv-loop μ-loop
 cast-n c = search needs
 
-element-copy-out-search-end : tie.Need-element-copy-out-search-end Inv-search μ-search Inv-loop μ-loop
-element-copy-out-search-end c = low c
+element-copy-out-if1 : tie.Need-element-copy-out-if1 Inv-search μ-search Inv-loop μ-loop
+element-copy-out-if1 c = low c
 
 search-end-requires : tie.Need-search-end-requires Inv-search μ-search Inv-loop μ-loop
 search-end-requires c κs = search needs
 
 search-holds : tie.Need-search-holds Inv-search μ-search Inv-loop μ-loop
 search-holds c =
-    let k = c .before .before in
-    let o = k .before .before .before .before .loop .inv in
-    (looking-start _ _ _ (o .numbers) _ _ (c .search-end .ensures) (o .reaches) (o .notes .says _ (low k)), refl)
+    let o = c .before .before .before .before .before .before .before .loop .inv in
+    (looking-start _ _ (o .numbers) _ _ (c .search-end .ensures) (o .reaches), refl)
 
 carried-at-requires : tie.Need-carried-at-requires Inv-search μ-search Inv-loop μ-loop
 carried-at-requires c κs = search needs
@@ -95,7 +94,7 @@ search-less c =
 search-again : tie.Need-search-again Inv-search μ-search Inv-loop μ-loop
 search-again c =
     let i = c .before .before .before .before .search .inv in
-    (looking-more _ _ _ _ _ (i .0) (c .before .before .before .search-test .taken) _ (c .before .before .carried-at .ensures) (c .if1 .left), i .1)
+    (looking-more _ _ _ _ _ (i .0) (c .before .before .before .search-test .taken) _ (c .before .before .carried-at .ensures) (c .if2 .left), i .1)
 
 element-write-seen : tie.Need-element-write-seen Inv-search μ-search Inv-loop μ-loop
 element-write-seen c = low (here c)
@@ -162,7 +161,7 @@ along-spec =
     step-at-requires
     enum-known-number
     cast-n
-    element-copy-out-search-end
+    element-copy-out-if1
     search-end-requires
     search-holds
     carried-at-requires
