@@ -1,23 +1,18 @@
--- For a caller of `carried_at`: in an area without a fault it tells what the walk meets at the place, and wherever `step_at` finds an
--- attribute it tells that one. Assumes nothing.
+-- For a caller of `carried_at`: wherever `step_at` finds an attribute, it tells that one. Assumes nothing.
 use mathlib.Core.Path.{_≡_, refl, sym, ap, subst, _∙_}
 use mathlib.Core.Bool.{Bool, true, false, cond, _&&_}
 use mathlib.Core.List.{List, [], _∷_}
 use Prim.Native.Nat.{ℕ, _+_, _-_, _<_, _≤_}
 use native.Mathlib.Omega.{arith}
 use lib.Dec.{eqb, ltb}
-use lib.ListN.{length, take, drop, getD, length-drop}
+use lib.ListN.{length, take, drop, getD}
 use lib.Seq.{drop-drop, getD-drop}
 use borrow.Author.Tests.{lt-ltb, le-ltb, eq-eqb, ne-eqb, eqb-true}
 use Rattle.meaning.specs.Octets.{Octets, numberOf}
-use Rattle.meaning.specs.Framing.{headLength, gpp, isPlain, Found, attribute, refused, nothing, oneSub, vendorFound, found, foundAt, broken, walkAt}
-use Rattle.meaning.specs.Refusals.{none, fault}
+use Rattle.meaning.specs.Framing.{headLength, gpp, isPlain, Found, attribute, refused, nothing, oneSub, vendorFound, found, foundAt}
 use Rattle.meaning.proofs.Octets.{octets-drop}
-use Rattle.meaning.proofs.Framing.{FoundIn, found-in}
-use Rattle.meaning.proofs.Walks.{walk-broken}
 use Rattle.octets.specs.Parts.{partOf}
 use Rattle.area.specs.Answers.{stepOf, numberAt, carriedAs, carriedAt}
-use Rattle.area.specs.declared.Carried.{Carried}
 use Rattle.area.specs.declared.Part.{Part}
 use Rattle.area.specs.declared.Step.{Step}
 use Rattle.area.specs.declared.Step.the-variants as step
@@ -105,10 +100,6 @@ front (t ∷ n ∷ r) o = go (ltb n 2) (ltb (length r + 2) n) (eqb t 26) refl
     go false false true e = rw (eqb-true t 26 e) (front-vendor n r)
     go false false false e = record { numbered = rw e; headed = rw (lt-ltb t 256 (o .0)); sized = refl }
 
-broken-faulty : (k place : ℕ) → fault (broken k place) ≡ none → ⊥
-unfolding fault
-broken-faulty k place e = let z : _≡_ {A = ℕ} 0 1 = cc in omega arith
-
 module _ (l : List ℕ) (place : ℕ) (o : Octets l) where
   number-front : frontNumber (drop place l) ≡ numberAt l place
   unfolding numberAt partOf
@@ -122,20 +113,6 @@ module _ (l : List ℕ) (place : ℕ) (o : Octets l) where
   found-carried inside n h s e =
       let f : Fronted (drop place l) n h s = subst (Front (drop place l)) e (front (drop place l) (octets-drop place l o)) in
       sym (carried-here l place inside n h s (s - h) (f .numbered ∙ number-front) (f .headed) (f .sized ∙ getD-drop place l 1 0) refl)
-
-  -- In an area without a fault from the place on, what is told stands there, and there is no fault behind it.
-  pub carried-stands : (r : Carried) → r ≡ carriedAt l place → fault (walkAt l place) ≡ none → place < length l → Stands l place (r .number) (r .value) (r .next)
-  unfolding foundAt
-  carried-stands r says sound inside = go (foundAt l place) refl
-    where
-      go : (f : Found) → foundAt l place ≡ f → Stands l place (r .number) (r .value) (r .next)
-      go (attribute n h s) p =
-          let same : r ≡ record { number = n; value = record { start = place + h; len = s - h }; next = place + s } = says ∙ found-carried inside n h s p in
-          rw same (step-attribute l place (stepOf place (foundAt l place)) refl n (record { start = place + h; len = s - h }) (place + s) (ap (stepOf place) p))
-      go (refused k) p = absurd (broken-faulty k place (sym (ap fault (walk-broken l place k p)) ∙ sound))
-      go nothing p =
-          let e : drop place l ≡ [] = subst (FoundIn (drop place l)) p (found-in (drop place l) (octets-drop place l o)) in
-          absurd (omega (arith, ap length e, length-drop place l))
 
   -- An attribute that is the answer of `step_at` is the one that is told.
   pub step-carried : (r : Step) → r ≡ stepOf place (foundAt l place) → (number : ℕ) (value : Part) (behind : ℕ) → r ≡ step.Attribute number value behind → record { number = number; value = value; next = behind } ≡ carriedAt l place
@@ -153,8 +130,3 @@ module _ (l : List ℕ) (place : ℕ) (o : Octets l) where
           sym (here ∙ rw (en, ev, eb))
       go (refused k) p e = absurd (let z : _≡_ {A = ℕ} 0 1 = cc in omega arith)
       go nothing p e = absurd (let z : _≡_ {A = ℕ} 0 1 = cc in omega arith)
-
--- no fault behind an attribute where there is none from it on
-pub sound-behind : (l : List ℕ) (place number : ℕ) (value : Part) (behind : ℕ) → Stands l place number value behind → fault (walkAt l place) ≡ none → fault (walkAt l behind) ≡ none
-unfolding fault
-sound-behind l place number value behind s sound = sym (ap fault (s .walks)) ∙ sound

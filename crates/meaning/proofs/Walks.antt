@@ -6,7 +6,7 @@ use Prim.Native.Nat.{ℕ, zero, suc, _+_, _-_, _≤_}
 use native.Mathlib.Omega.{arith}
 use native.Mathlib.Nat.{add-zero}
 use lib.Dec.{ltb, leb, eqb}
-use lib.ListN.{length, take, drop, getD, drop-of-length-le}
+use lib.ListN.{length, take, drop, getD}
 use lib.Seq.{drop-drop}
 use borrow.Author.Tests.{ltb-false, leb-true, eqb-true}
 use Rattle.meaning.specs.Octets.{numberOf}
@@ -94,7 +94,3 @@ module _ (l : List ℕ) (at : ℕ) where
   pub walk-ended : foundAt l at ≡ nothing → walkAt l at ≡ end
   unfolding walkAt foundAt
   walk-ended e = from-found at (drop at l) nothing e
-
-  pub walk-past : length l ≤ at → walkAt l at ≡ end
-  unfolding walkAt from
-  walk-past h = ap (from 0 at) (drop-of-length-le l h)

@@ -34,10 +34,6 @@ part-rest l at n h = take-all n (drop at l) (omega (arith, length-drop at l))
 pub part-to-end : (l : List ℕ) (at n : ℕ) → length l - at ≤ n → take (length l - at) (drop at l) ≡ partOf l at n
 part-to-end l at n h = take-all (length l - at) (drop at l) (omega (arith, length-drop at l)) ∙ sym (part-rest l at n h)
 
--- from the first octet on, as long as the whole, it is the whole
-pub part-whole : (l : List ℕ) → partOf l 0 (length l) ≡ l
-part-whole l = part-rest l 0 (length l) (omega arith)
-
 -- four octets that are there, by their places
 pub part-four : (l : List ℕ) (at a b c d : ℕ) → at + 4 ≤ length l → a ≡ getD l at 0 → b ≡ getD l (at + 1) 0 → c ≡ getD l (at + 2) 0 → d ≡ getD l (at + 3) 0 → a ∷ b ∷ c ∷ d ∷ [] ≡ partOf l at 4
 unfolding partOf

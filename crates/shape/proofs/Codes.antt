@@ -132,23 +132,6 @@ none-among before (s ∷ l) c p =
     rw (ne-eqb c (codeOf s) (past-before (before × (c ≡ codeOf s → ⊥)) c (alone (map codeOf l)) p .1))
     (none-among (before × (c ≡ codeOf s → ⊥)) l c p)
 
--- the shapes that have a form of their own, in the order of their codes
-abbrev pub ownForms : List Shape
-ownForms =
-    number ∷ address ∷ digits 1 15 ∷ digits 5 6 ∷ hexadecimal ∷ qos ∷ hexDigit ∷ anyOctet ∷ decimalDigit ∷ []
-
--- A code that none of these has tells a shape without a form.
-pub no-form : (c : ℕ) → Past (Unit {0}) c (map codeOf ownForms) → formOf (shapeBy c) ≡ 0
-unfolding shapeBy codeOf formOf
-no-form c p = go (eqb c 1) (eqb c 2) (eqb c 3) (eqb c 4)
-  where
-    go : (a b d e : Bool) → formOf (cond a (atLeast 1) (cond b (atLeast 5) (cond d (exactly 17) (cond e blocks (shapeAmong ownForms c))))) ≡ 0
-    go true b d e = refl
-    go false true d e = refl
-    go false false true e = refl
-    go false false false true = refl
-    go false false false false = rw (none-among (Unit {0}) ownForms c p)
-
 -- A code that no shape has tells no shape.
 pub no-shape : (c : ℕ) → Past (Unit {0}) c (map codeOf shapes) → shapeBy c ≡ free
 unfolding shapeBy
