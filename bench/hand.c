@@ -1,6 +1,9 @@
 /* Read, check and write as document 01 sets them out, written by hand for speed. Each job is
  * one pass over its input: the answer is made in a buffer on the stack, which is great enough
- * for any, and goes to the caller's buffer only once nothing can be refused any more. */
+ * for any, and goes to the caller's buffer only once nothing can be refused any more.
+ *
+ * With LIMITS defined the same is written within what binds the proved code, so that one can
+ * see what the proofs cost and what the language does: limits.h says what changes. */
 #include "hand.h"
 
 #include <stdbool.h>
@@ -37,6 +40,10 @@ enum { ANY, RANGE, STATUS };
 
 /* Kinds in which a number is not permitted, a bit each; and one that depends on flag 4. */
 enum { ACCOUNTING = 0x7C, ON_OFF = 0x30, NOT_STOP = 0x76, NO_CLASS = 0x80, USAGE = 0x4C };
+
+#ifdef LIMITS
+#include "limits.h"
+#else
 
 struct number {
     uint8_t shape, allowed, low, high, once, barred;
@@ -95,6 +102,50 @@ static const uint8_t nibble[256] = {
 };
 static const char upper[16] = "0123456789ABCDEF";
 
+static inline uint8_t shape_of(uint32_t number)
+{
+    return numbers[number].shape;
+}
+
+static inline uint8_t half_of(uint8_t digit)
+{
+    return nibble[digit];
+}
+
+static inline uint8_t digit_of(uint8_t half)
+{
+    return (uint8_t)upper[half];
+}
+
+/* Copies to a stack buffer, where up to 15 octets after the copy may change as well. */
+static inline void copy_value(uint8_t *to, const uint8_t *from, size_t count, const uint8_t *end)
+{
+    if (count <= 16 && end - from >= 16)
+        memcpy(to, from, 16);
+    else
+        memcpy(to, from, count);
+}
+
+/* Packs digits two to an octet; false where one is none. */
+static inline bool pack_digits(uint8_t *to, const uint8_t *text, size_t count)
+{
+    size_t k = 0;
+    for (; k + 1 < count; k += 2) {
+        uint8_t high = text[k] - '0', low = text[k + 1] - '0';
+        if (high > 9 || low > 9)
+            return false;
+        *to++ = (uint8_t)(high << 4 | low);
+    }
+    if (k < count) {
+        uint8_t high = text[k] - '0';
+        if (high > 9)
+            return false;
+        *to = (uint8_t)(high << 4 | 15);
+    }
+    return true;
+}
+#endif
+
 static gir_answer refusal(uint32_t number, uint64_t second)
 {
     return (gir_answer){.refused = 1, .number = number, .second = second};
@@ -115,36 +166,7 @@ static inline bool is_kind(uint32_t kind)
     return kind - 1 < 6;
 }
 
-/* Copies to a stack buffer, where up to 15 octets after the copy may change as well. */
-static inline void copy_loosely(uint8_t *to, const uint8_t *from, size_t count,
-                                const uint8_t *end)
-{
-    if (count <= 16 && end - from >= 16)
-        memcpy(to, from, 16);
-    else
-        memcpy(to, from, count);
-}
-
 /* ---- texts ---- */
-
-/* Packs digits two to an octet; false where one is none. */
-static inline bool pack_digits(uint8_t *to, const uint8_t *text, size_t count)
-{
-    size_t k = 0;
-    for (; k + 1 < count; k += 2) {
-        uint8_t high = text[k] - '0', low = text[k + 1] - '0';
-        if (high > 9 || low > 9)
-            return false;
-        *to++ = (uint8_t)(high << 4 | low);
-    }
-    if (k < count) {
-        uint8_t high = text[k] - '0';
-        if (high > 9)
-            return false;
-        *to = (uint8_t)(high << 4 | 15);
-    }
-    return true;
-}
 
 /* Unpacks digits; false where a half is none, or the odd last one is not 15. */
 static inline bool unpack_digits(uint8_t *to, const uint8_t *stored, size_t count)
@@ -177,7 +199,7 @@ static inline bool are_hexadecimal(const uint8_t *text, size_t count)
 {
     uint8_t bad = 0;
     for (size_t k = 0; k < count; k++)
-        bad |= nibble[text[k]];
+        bad |= half_of(text[k]);
     return bad < 16;
 }
 
@@ -187,7 +209,7 @@ static inline bool pack_hexadecimal(uint8_t *to, const uint8_t *text, size_t oct
 {
     uint8_t bad = 0;
     for (size_t k = 0; k < octets; k++) {
-        uint8_t high = nibble[text[2 * k]], low = nibble[text[2 * k + 1]];
+        uint8_t high = half_of(text[2 * k]), low = half_of(text[2 * k + 1]);
         bad |= high | low;
         to[k] = (uint8_t)(high << 4 | low);
     }
@@ -197,8 +219,8 @@ static inline bool pack_hexadecimal(uint8_t *to, const uint8_t *text, size_t oct
 static inline void unpack_hexadecimal(uint8_t *to, const uint8_t *octets, size_t count)
 {
     for (size_t k = 0; k < count; k++) {
-        *to++ = (uint8_t)upper[octets[k] >> 4];
-        *to++ = (uint8_t)upper[octets[k] & 15];
+        *to++ = digit_of(octets[k] >> 4);
+        *to++ = digit_of(octets[k] & 15);
     }
 }
 
@@ -284,7 +306,7 @@ static inline size_t put_shaped(uint8_t *to, uint8_t shape, const uint8_t *value
         return 0;
     case NSAPI:
         to[0] = 7;
-        to[2] = count == 1 ? nibble[value[0]] : 16;
+        to[2] = count == 1 ? half_of(value[0]) : 16;
         return to[2] < 16 ? 3 : 0;
     case STOP:
         to[0] = 7;
@@ -299,17 +321,10 @@ static inline size_t put_shaped(uint8_t *to, uint8_t shape, const uint8_t *value
     }
 }
 
-gir_answer hand_read(const uint8_t *area, size_t area_len, uint32_t kind, uint32_t flags,
-                     uint8_t *sheet, size_t room)
+/* Reads what is let in; the sheet is made in a buffer of its own. */
+static inline gir_answer read_in(const uint8_t *area, size_t area_len, uint32_t kind,
+                                 uint32_t flags, uint8_t *sheet, size_t room, uint8_t *made)
 {
-    if (!is_kind(kind))
-        return refusal(1, 0);
-    if (!are_flags(flags))
-        return refusal(2, 0);
-    if (area_len > LONGEST)
-        return refusal(3, area_len);
-
-    uint8_t made[GIR_SHEET_ROOM(LONGEST) + SLACK];
     const uint8_t *at = area, *end = area + area_len;
     uint8_t *to = made + SHEET_HEAD;
     uint32_t items = 0;
@@ -320,12 +335,12 @@ gir_answer hand_read(const uint8_t *area, size_t area_len, uint32_t kind, uint32
             return refusal(bad, (uint64_t)(at - area));
         to[0] = (uint8_t)(it.key >> 8);
         to[1] = (uint8_t)it.key;
-        uint8_t shape = numbers[it.number].shape;
+        uint8_t shape = shape_of(it.number);
         size_t put = shape == FREE ? 0 : put_shaped(to + 2, shape, it.value, it.count);
         if (put == 0) {
             to[2] = it.number > 255;
             to[3] = (uint8_t)it.count;
-            copy_loosely(to + 4, it.value, it.count, end);
+            copy_value(to + 4, it.value, it.count, end);
             put = 2 + it.count;
         }
         to += 2 + put;
@@ -341,6 +356,28 @@ gir_answer hand_read(const uint8_t *area, size_t area_len, uint32_t kind, uint32
     memcpy(made, head, SHEET_HEAD);
     memcpy(sheet, made, length);
     return (gir_answer){.length = length};
+}
+
+gir_answer hand_read(const uint8_t *area, size_t area_len, uint32_t kind, uint32_t flags,
+                     uint8_t *sheet, size_t room)
+{
+    if (!is_kind(kind))
+        return refusal(1, 0);
+    if (!are_flags(flags))
+        return refusal(2, 0);
+    if (area_len > LONGEST)
+        return refusal(3, area_len);
+
+#ifdef LIMITS
+    if (area_len <= 512) {
+        uint8_t cleared[GIR_SHEET_ROOM(512)] = {0};
+        return read_in(area, area_len, kind, flags, sheet, room, cleared);
+    }
+    uint8_t made[GIR_SHEET_ROOM(LONGEST)] = {0};
+#else
+    uint8_t made[GIR_SHEET_ROOM(LONGEST) + SLACK];
+#endif
+    return read_in(area, area_len, kind, flags, sheet, room, made);
 }
 
 /* ---- check ---- */
@@ -362,7 +399,7 @@ static inline bool meets(uint8_t shape, const uint8_t *value, size_t count)
             return is_release(value, "98") && are_hexadecimal(value + 3, 6);
         return count == 25 && is_release(value, "99") && are_hexadecimal(value + 3, 22);
     case NSAPI:
-        return count == 1 && nibble[value[0]] < 16;
+        return count == 1 && half_of(value[0]) < 16;
     case STOP:
         return count == 1;
     case MODE:
@@ -380,6 +417,7 @@ static inline bool meets(uint8_t shape, const uint8_t *value, size_t count)
     }
 }
 
+#ifndef LIMITS
 /* Whether a value that meets its shape is allowed. */
 static inline bool is_allowed(const struct number *of, const uint8_t *value, size_t count,
                               uint32_t kind)
@@ -392,6 +430,7 @@ static inline bool is_allowed(const struct number *of, const uint8_t *value, siz
         return read >= of->low && read <= of->high;
     return kind == 1 || read == status[kind];
 }
+#endif
 
 static inline uint32_t has(const uint8_t *seen, uint32_t number)
 {
@@ -435,6 +474,74 @@ static uint32_t *put_ends(uint32_t *to, uint32_t place, const uint8_t *seen, uin
     return to;
 }
 
+#ifdef LIMITS
+/* Counts the entries, and lays them as far as there is room; or gives the first refusal of the
+ * framing with its place. */
+static uint32_t pass(const uint8_t *area, size_t area_len, const uint8_t *row, uint32_t kind,
+                     uint32_t flags, uint32_t *list, size_t room, size_t *counted)
+{
+    uint8_t seen[512] = {0};
+    size_t place = 0, at = 0;
+#define ENTRY(rule, when)                                                                         \
+    do {                                                                                          \
+        if (when) {                                                                               \
+            if (at < room)                                                                        \
+                list[at] = (uint32_t)place << 20 | (uint32_t)(rule) << 16 | it.key;               \
+            at++;                                                                                 \
+        }                                                                                         \
+    } while (0)
+    while (place != area_len) {
+        struct attribute it;
+        uint32_t bad = frame(area + place, area_len - place, &it);
+        if (bad) {
+            *counted = place;
+            return bad;
+        }
+        bool again = seen[it.number] && is_once(it.number);
+        bool met = meets(shape_of(it.number), it.value, it.count);
+        bool offends = met && !is_allowed(it.number, it.value, kind);
+        bool bars = is_barred(row, it.number, kind, flags);
+        if (!met | offends | again | bars) {
+            ENTRY(1, !met);
+            ENTRY(2, offends);
+            ENTRY(3, again);
+            ENTRY(4, bars);
+        }
+        seen[it.number] = 1;
+        place += it.length;
+    }
+#undef ENTRY
+    uint32_t ends[16], *last = put_ends(ends, (uint32_t)place, seen, kind, flags);
+    for (const uint32_t *end = ends; end != last; end++, at++)
+        if (at < room)
+            list[at] = *end;
+    *counted = at;
+    return 0;
+}
+
+gir_answer hand_check(const uint8_t *area, size_t area_len, uint32_t kind, uint32_t flags,
+                      uint32_t *list, size_t room)
+{
+    if (!is_kind(kind))
+        return refusal(1, 0);
+    if (!are_flags(flags))
+        return refusal(2, 0);
+    if (area_len > LONGEST)
+        return refusal(3, area_len);
+
+    uint8_t row[256];
+    lay_row(row, kind);
+    size_t counted;
+    uint32_t bad = pass(area, area_len, row, kind, flags, list, 0, &counted);
+    if (bad)
+        return refusal(bad, counted);
+    if (counted > room)
+        return refusal(10, counted);
+    if (counted > 0)
+        pass(area, area_len, row, kind, flags, list, room, &counted);
+    return (gir_answer){.length = counted};
+}
+#else
 gir_answer hand_check(const uint8_t *area, size_t area_len, uint32_t kind, uint32_t flags,
                       uint32_t *list, size_t room)
 {
@@ -478,6 +585,7 @@ gir_answer hand_check(const uint8_t *area, size_t area_len, uint32_t kind, uint3
     memcpy(list, made, length * sizeof *list);
     return (gir_answer){.length = length};
 }
+#endif
 
 /* ---- write ---- */
 
@@ -486,7 +594,7 @@ gir_answer hand_check(const uint8_t *area, size_t area_len, uint32_t kind, uint3
 static inline ptrdiff_t put_raw(uint8_t *to, uint8_t form, uint32_t number, const uint8_t *stored,
                                 size_t count, const uint8_t *end)
 {
-    uint8_t shape = numbers[number].shape;
+    uint8_t shape = shape_of(number);
     if (number == VENDOR) {
         if (count < 5 || count > 253 || load32(stored) == THREE_GPP)
             return -1;
@@ -495,7 +603,7 @@ static inline ptrdiff_t put_raw(uint8_t *to, uint8_t form, uint32_t number, cons
     } else if (shape - 1u < SOME - 1u && meets(shape, stored, count)) {
         return -1;
     }
-    copy_loosely(to, stored, count, end);
+    copy_value(to, stored, count, end);
     return (ptrdiff_t)count;
 }
 
@@ -504,7 +612,7 @@ static inline ptrdiff_t put_raw(uint8_t *to, uint8_t form, uint32_t number, cons
 static inline ptrdiff_t put_value(uint8_t *to, uint8_t form, uint32_t number,
                                   const uint8_t *stored, size_t count, const uint8_t *end)
 {
-    uint8_t shape = numbers[number].shape;
+    uint8_t shape = shape_of(number);
     switch (form) {
     case 0:
     case 1:
@@ -538,7 +646,7 @@ static inline ptrdiff_t put_value(uint8_t *to, uint8_t form, uint32_t number,
         if (shape == STOP)
             to[0] = stored[0];
         else if ((shape == NSAPI && stored[0] < 16) || (shape == MODE && stored[0] < 10))
-            to[0] = (uint8_t)upper[stored[0]];
+            to[0] = digit_of(stored[0]);
         else
             return -1;
         return 1;
@@ -558,6 +666,9 @@ gir_answer hand_write(const uint8_t *sheet, size_t sheet_len, uint8_t *area, siz
 
     /* what no longer fits goes again and again to the same place after the longest area */
     uint8_t made[LONGEST + SLACK];
+#ifdef LIMITS
+    memset(made, 0, 1024); /* as much as most areas need */
+#endif
     size_t length = 0;
     const uint8_t *at = sheet + SHEET_HEAD, *end = sheet + sheet_len;
     uint32_t items = (uint32_t)sheet[7] << 8 | sheet[8];
