@@ -166,6 +166,12 @@ static inline bool is_kind(uint32_t kind)
     return kind - 1 < 6;
 }
 
+/* The first of refusals 1 to 3, or 0. */
+static inline uint32_t at_once(uint32_t kind, uint32_t flags, size_t area_len)
+{
+    return !is_kind(kind) ? 1 : !are_flags(flags) ? 2 : area_len > LONGEST ? 3 : 0;
+}
+
 /* ---- texts ---- */
 
 /* Unpacks digits; false where a half is none, or the odd last one is not 15. */
@@ -361,12 +367,9 @@ static inline gir_answer read_in(const uint8_t *area, size_t area_len, uint32_t 
 gir_answer hand_read(const uint8_t *area, size_t area_len, uint32_t kind, uint32_t flags,
                      uint8_t *sheet, size_t room)
 {
-    if (!is_kind(kind))
-        return refusal(1, 0);
-    if (!are_flags(flags))
-        return refusal(2, 0);
-    if (area_len > LONGEST)
-        return refusal(3, area_len);
+    uint32_t bad = at_once(kind, flags, area_len);
+    if (bad)
+        return refusal(bad, bad == 3 ? area_len : 0);
 
 #ifdef LIMITS
     if (area_len <= 512) {
@@ -522,17 +525,14 @@ static uint32_t pass(const uint8_t *area, size_t area_len, const uint8_t *row, u
 gir_answer hand_check(const uint8_t *area, size_t area_len, uint32_t kind, uint32_t flags,
                       uint32_t *list, size_t room)
 {
-    if (!is_kind(kind))
-        return refusal(1, 0);
-    if (!are_flags(flags))
-        return refusal(2, 0);
-    if (area_len > LONGEST)
-        return refusal(3, area_len);
+    uint32_t bad = at_once(kind, flags, area_len);
+    if (bad)
+        return refusal(bad, bad == 3 ? area_len : 0);
 
     uint8_t row[256];
     lay_row(row, kind);
     size_t counted;
-    uint32_t bad = pass(area, area_len, row, kind, flags, list, 0, &counted);
+    bad = pass(area, area_len, row, kind, flags, list, 0, &counted);
     if (bad)
         return refusal(bad, counted);
     if (counted > room)
@@ -545,12 +545,9 @@ gir_answer hand_check(const uint8_t *area, size_t area_len, uint32_t kind, uint3
 gir_answer hand_check(const uint8_t *area, size_t area_len, uint32_t kind, uint32_t flags,
                       uint32_t *list, size_t room)
 {
-    if (!is_kind(kind))
-        return refusal(1, 0);
-    if (!are_flags(flags))
-        return refusal(2, 0);
-    if (area_len > LONGEST)
-        return refusal(3, area_len);
+    uint32_t bad = at_once(kind, flags, area_len);
+    if (bad)
+        return refusal(bad, bad == 3 ? area_len : 0);
 
     uint32_t made[3 * (LONGEST / 2) + 16];
     uint8_t seen[512] = {0}; /* by octets: bits of one word would wait for each other */
@@ -559,7 +556,7 @@ gir_answer hand_check(const uint8_t *area, size_t area_len, uint32_t kind, uint3
     size_t place = 0;
     while (place != area_len) {
         struct attribute it;
-        uint32_t bad = frame(area + place, area_len - place, &it);
+        bad = frame(area + place, area_len - place, &it);
         if (bad)
             return refusal(bad, place);
         const struct number *of = &numbers[it.number];
