@@ -13,7 +13,7 @@ use Rattle.meaning.specs.Answers.{over}
 use Rattle.meaning.proofs.Forms.{stored-le}
 use Rattle.meaning.proofs.Bounds.{count-fits}
 use Rattle.octets.specs.Parts.{partOf, laidAt}
-use Rattle.octets.proofs.Overs.{over-none, laid-behind, laid-length}
+use Rattle.octets.proofs.Overs.{over-none, laid-behind}
 use Rattle.area.specs.declared.Refusal.{Refusal}
 use Rattle.area.specs.declared.Part.{Part}
 use Rattle.area.proofs.Steps.{Stands}
@@ -87,52 +87,57 @@ module _ (l : List ℕ) (place n : ℕ) (p : Part) (behind : ℕ) (g : Stands l 
       let c = g .carried o in
       subst Small (sym (item-made i e)) (record { number-low = c .low; count-low = count-fits _ c })
 
-  -- an item made of the attribute, and the octets that it announces
-  module _ (i : Item) (size : ℕ) (made : i ≡ itemFor n (take (behind - p .start) (drop (p .start) l)) p) (announces : size ≡ storedLength (i .form) (i .count)) where
+  -- the item of the attribute
+  module _ (i : Item) (made : i ≡ itemFor n (take (behind - p .start) (drop (p .start) l)) p) where
     octets-are : itemIn l i ≡ item n (valueIn l p)
     octets-are = ap (itemIn l) (item-made i made) ∙ item-meant l n p o
 
-    octets-long : length (itemIn l i) ≡ 4 + size
-    octets-long =
-        ap length octets-are ∙ item-size
-        ∙ ap (λ (k : ℕ). 4 + k) (sym (announces ∙ ap (λ (j : Item). storedLength (j .form) (j .count)) (item-made i made) ∙ announced-as-meant l n p))
-
     module _ (d out : List ℕ) (count written : ℕ) (k : Passing l d out place count written) where
-      -- the sums do not wrap
-      pub passing-sum : written + (4 + size) ≤ 2 * length l
-      passing-sum = omega (arith, octets-long, ap length octets-are, item-bound, k .few, g .inside)
+      item-inside : written + length (itemIn l i) ≤ 2 * behind
+      item-inside = omega (arith, ap length octets-are, item-bound, k .few)
 
       -- there is room for the item
-      pub item-fits : (room : ℕ) → 2 * length l ≤ room → written + length (itemIn l i) ≤ room
-      item-fits room h = omega (arith, octets-long, passing-sum)
+      pub item-fits : 2 * length l ≤ length d → written + length (itemIn l i) ≤ length out
+      item-fits room = omega (arith, item-inside, k .kept, g .inside)
 
-      -- one attribute more
-      pub passing-laid : (after : List ℕ) → 2 * length l ≤ length d → after ≡ laidAt written (itemIn l i) out → Passing l d after behind (count + 1) (written + (4 + size))
-      passing-laid after room h =
-          record {
-            passed = framing.passed-more l count place (k .passed) n p behind g;
-            gone = k .gone ++ itemIn l i;
-            whole =
-                k .whole ∙ ap (λ (s : List ℕ). k .gone ++ s) (walks-on ∙ ap (λ (s : List ℕ). s ++ itemsOf (attributes (walkAt l behind))) (sym octets-are))
-                ∙ sym (append-assoc (k .gone) (itemIn l i) (itemsOf (attributes (walkAt l behind))));
-            long = omega (arith, length-append (k .gone) (itemIn l i), k .long, octets-long);
-            few = omega (arith, octets-long, ap length octets-are, item-bound, k .few);
-            kept = ap length h ∙ laid-length written (itemIn l i) out ∙ k .kept;
-            held = h ∙ laid-behind (k .gone) (itemIn l i) d out written (k .long) (k .held) (item-fits (length d) room);
-          }
+      -- with the octets that it announces
+      module _ (size : ℕ) (announces : size ≡ storedLength (i .form) (i .count)) where
+        octets-long : length (itemIn l i) ≡ 4 + size
+        octets-long =
+            ap length octets-are ∙ item-size
+            ∙ ap (λ (m : ℕ). 4 + m) (sym (announces ∙ ap (λ (j : Item). storedLength (j .form) (j .count)) (item-made i made) ∙ announced-as-meant l n p))
+
+        -- the sums do not wrap
+        pub passing-sum : written + (4 + size) ≤ 2 * length l
+        passing-sum = omega (arith, octets-long, item-inside, g .inside)
+
+        -- one attribute more
+        pub passing-more : 2 * length l ≤ length d → (after : List ℕ) → length after ≡ length out → after ≡ laidAt written (itemIn l i) out → Passing l d after behind (count + 1) (written + (4 + size))
+        passing-more room after len h =
+            record {
+              passed = framing.passed-more l count place (k .passed) n p behind g;
+              gone = k .gone ++ itemIn l i;
+              whole =
+                  k .whole ∙ ap (λ (s : List ℕ). k .gone ++ s) (walks-on ∙ ap (λ (s : List ℕ). s ++ itemsOf (attributes (walkAt l behind))) (sym octets-are))
+                  ∙ sym (append-assoc (k .gone) (itemIn l i) (itemsOf (attributes (walkAt l behind))));
+              long = omega (arith, length-append (k .gone) (itemIn l i), k .long, octets-long);
+              few = omega (arith, octets-long, item-inside);
+              kept = len ∙ k .kept;
+              held = h ∙ laid-behind (k .gone) (itemIn l i) d out written (k .long) (k .held) (omega (arith, item-fits room, k .kept));
+            }
 
 -- The loop is left.
 module _ (l d out : List ℕ) (place count written : ℕ) (k : Passing l d out place count written) where
   -- none is left
-  pub passing-done : place ≤ length l → 2 * length l ≤ length d → walkAt l place ≡ end → PassSays l d (Whole count written) out
+  pub passing-done : walkAt l place ≡ end → PassSays l d (Whole count written) out
   unfolding PassSays itemsOf attributes fault
-  passing-done within room h =
+  passing-done h =
       let all : itemsIn l ≡ k .gone = k .whole ∙ ap (λ (w : Walk). k .gone ++ itemsOf (attributes w)) h ∙ append-nil (k .gone) in
       record {
         sound = k .passed .same-fault ∙ ap fault h;
         counts = omega (arith, k .passed .counted, ap (λ (w : Walk). length (attributes w)) h);
         long = sym (ap length all ∙ k .long);
-        fits = omega (arith, k .few, k .kept);
+        few = omega (arith, k .few, k .passed .inside);
         holds = k .held ∙ ap (λ (s : List ℕ). over s d) (sym all);
       }
 

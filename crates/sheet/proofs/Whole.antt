@@ -1,13 +1,13 @@
 -- The whole sheet: its head and its items one behind the other, and what reading answers. Assumes nothing.
 use mathlib.Core.Path.{_≡_, refl, sym, ap, subst, _∙_}
 use mathlib.Core.List.{List, _++_}
-use Prim.Native.Nat.{ℕ, _+_, _-_, _≤_, _<_}
+use Prim.Native.Nat.{ℕ, _+_, _*_, _≤_, _<_}
 use native.Mathlib.Omega.{arith}
 use lib.ListN.{length, take, length-append}
 use borrow.Author.Tests.{lt-ltb, le-ltb}
 use Rattle.meaning.specs.Octets.{Octets, octetsOf}
 use Rattle.meaning.specs.Framing.{walk, attributes}
-use Rattle.meaning.specs.Refusals.{fault, areaRefusal, areaOrder}
+use Rattle.meaning.specs.Refusals.{none, fault, areaRefusal, areaOrder}
 use Rattle.meaning.specs.Sheet.{sheetWith, sheetOf, Readable}
 use Rattle.meaning.specs.Answers.{over, after, readAnswer}
 use Rattle.meaning.proofs.Sheets.{clear}
@@ -21,7 +21,7 @@ use Rattle.area.proofs.Arriving.{fit-arrived}
 use Rattle.sheet.specs.declared.Reading.the-variants.{Sheet, Refused}
 use Rattle.sheet.specs.declared.Tally.{Tally}
 use Rattle.sheet.specs.declared.Tally.the-variants.{Whole, Broken}
-use Rattle.sheet.specs.Items.{sheetHead, itemsIn, Passed, PassSays, Ready}
+use Rattle.sheet.specs.Items.{sheetHead, itemsIn, Passed, PassSays}
 use Rattle.sheet.specs.Answers.{Read}
 
 -- a sheet is its head and its items
@@ -37,6 +37,13 @@ head-long kind flags count = refl
 pub refused-read : (kind flags : ℕ) (area : List ℕ) (refused : Refusal) (d : List ℕ) → areaRefusal kind flags area ≡ inBook refused → Read kind flags area d (Refused refused) d
 unfolding readAnswer areaOrder after
 refused-read kind flags area refused d e = record { says = rw e; holds = rw e }
+
+-- An area of which nothing of 1 to 8 applies, how many items it has and how many octets these are; they stand at the start of a buffer.
+pub record Ready (kind flags : ℕ) (area : List ℕ) (count written : ℕ) (held : List ℕ) : Type 0 where
+  pub accepted : areaRefusal kind flags area ≡ none
+  pub counts : count ≡ length (attributes (walk area))
+  pub long : written ≡ length (itemsIn area)
+  pub laid : take written held ≡ itemsIn area
 
 module _ (kind flags : ℕ) (area : List ℕ) (count written : ℕ) (made : List ℕ) (y : Ready kind flags area count written made) where
   sheet-long : length (sheetOf kind flags area) ≡ 9 + written
@@ -87,11 +94,15 @@ module _ (kind flags : ℕ) (area : List ℕ) (count written : ℕ) (made : List
                 (h ∙ behind ∙ ap (λ (s : List ℕ). over s d) (sym (sheet-parts kind flags count area (y .counts))));
           }
 
-      -- the items are copied
+      -- the items were copied
       pub sheet-copied : (held : List ℕ) → held ≡ laidAt 9 (take written made) headed → Read kind flags area d (Sheet (9 + written)) held
       sheet-copied held e = sheet-laid held (e ∙ ap (λ (s : List ℕ). laidAt 9 s headed) (y .laid))
 
 -- ---- The pass
+
+-- an area that arrived has at most 4,076 octets
+pub arrived-short : (kind flags : ℕ) (area : List ℕ) → arrivalOf kind flags (length area) ≡ Fit → length area ≤ 4076
+arrived-short kind flags area fit = fit-arrived kind flags area (arrivalOf kind flags (length area)) refl fit .short
 
 -- Nothing of 1 to 3 applies.
 module _ (kind flags : ℕ) (area : List ℕ) (fit : arrivalOf kind flags (length area) ≡ Fit) (blank : List ℕ) (r : Tally) (made : List ℕ) (says : PassSays area blank r made) where
@@ -104,15 +115,20 @@ module _ (kind flags : ℕ) (area : List ℕ) (fit : arrivalOf kind flags (lengt
   framing-refused refused d q =
       refused-read kind flags area refused d (left ∙ subst (λ (t : Tally). PassSays area blank t made) q says)
 
-  -- the items are counted
-  pub items-ready : (count written : ℕ) → r ≡ Whole count written → Ready kind flags area count written made
-  unfolding PassSays
-  items-ready count written q =
-      let s : Passed area blank count written made = subst (λ (t : Tally). PassSays area blank t made) q says in
-      record {
-        accepted = left ∙ s .sound;
-        counts = s .counts;
-        long = s .long;
-        fits = s .fits;
-        laid = rw (s .long, s .holds) (over-front (itemsIn area) blank);
-      }
+  module _ (count written : ℕ) (q : r ≡ Whole count written) where
+    whole : Passed area blank count written made
+    unfolding PassSays
+    whole = subst (λ (t : Tally). PassSays area blank t made) q says
+
+    -- the items are laid
+    pub items-ready : Ready kind flags area count written made
+    items-ready =
+        record {
+          accepted = left ∙ whole .sound;
+          counts = whole .counts;
+          long = whole .long;
+          laid = rw (whole .long, whole .holds) (over-front (itemsIn area) blank);
+        }
+
+    pub items-few : written ≤ 2 * length area
+    items-few = whole .few

@@ -1,11 +1,11 @@
 -- Document 01, "The sheet": the octets of an item, of the items and of the sheet's head, as the writers lay them. Assumes nothing.
-use Prim.Native.Nat.{ℕ, _<_, _≤_}
+use Prim.Native.Nat.{ℕ, _*_, _<_, _≤_}
 use mathlib.Core.Path.{_≡_}
 use mathlib.Core.List.{List, [], _∷_, _++_}
-use lib.ListN.{length, take}
+use lib.ListN.{length}
 use Rattle.meaning.specs.Octets.{octetsOf}
 use Rattle.meaning.specs.Framing.{walk, attributes}
-use Rattle.meaning.specs.Refusals.{none, fault, areaRefusal}
+use Rattle.meaning.specs.Refusals.{none, fault}
 use Rattle.meaning.specs.Answers.{over}
 use Rattle.meaning.specs.Sheet.{typeOf, subOf, mark, itemsOf}
 use Rattle.area.specs.Answers.{inBook}
@@ -41,19 +41,10 @@ pub record Passed (area buffer : List ℕ) (count written : ℕ) (held : List �
   pub sound : fault (walk area) ≡ none
   pub counts : count ≡ length (attributes (walk area))
   pub long : written ≡ length (itemsIn area)
-  pub fits : written ≤ length held
+  pub few : written ≤ 2 * length area
   pub holds : held ≡ over (itemsIn area) buffer
 
 -- the same of any area
 unfoldable pub PassSays : (area buffer : List ℕ) → Tally → (held : List ℕ) → Type 0
 PassSays area buffer (Whole count written) held = Passed area buffer count written held
 PassSays area buffer (Broken r) held = fault (walk area) ≡ inBook r
-
--- an area of which nothing of 1 to 8 applies, how many items it has and how many octets these are; the items stand at the start of
--- `made`
-pub record Ready (kind flags : ℕ) (area : List ℕ) (count written : ℕ) (made : List ℕ) : Type 0 where
-  pub accepted : areaRefusal kind flags area ≡ none
-  pub counts : count ≡ length (attributes (walk area))
-  pub long : written ≡ length (itemsIn area)
-  pub fits : written ≤ length made
-  pub laid : take written made ≡ itemsIn area

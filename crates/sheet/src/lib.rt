@@ -1,5 +1,5 @@
-// Sheets: an attribute area is read into a sheet. One pass over the area tests the framing, counts the items and lays them into a short
-// buffer, from which they are copied; where they have no room there, another lays them into the sheet.
+// Sheets: an attribute area is read into a sheet. One pass over the area tests the framing, counts the items and lays them into a
+// buffer, from which they are copied.
 use area::Arrival;
 use area::Refusal;
 use area::Step;
@@ -17,7 +17,7 @@ ghost use Rattle.octets.specs.DigitStrings.{halves};
 ghost use Rattle.area.specs.Answers.{arrivalOf};
 ghost use Rattle.area.specs.declared.Arrival.the-variants.{Fit};
 ghost use Rattle.shape.specs.Items.{storedPart, storedIn};
-ghost use Rattle.sheet.specs.Items.{headOf, itemIn, Small, sheetHead, PassSays, Ready};
+ghost use Rattle.sheet.specs.Items.{headOf, itemIn, Small, sheetHead, PassSays};
 ghost use Rattle.sheet.specs.Answers.{Read};
 
 // What reading answers: the octets of the sheet that stands at the buffer's start, or a refusal.
@@ -144,7 +144,7 @@ fn put_item(buf: &mut [u8], at: usize, area: &[u8], item: Item)
 }
 
 // Lays the items of an area over the buffer's start, one behind the other, and counts them; or gives the first refusal of the framing.
-// "A sheet is never longer than 9 + 2 x area length", so the buffer has room for them.
+// "A sheet is never longer than 9 + 2 x area length": the buffer has room for the items of any area so long.
 fn put_items(area: &[u8], buf: &mut [u8]) -> Tally
     requires { ⌜ 2 * length (now area) ≤ length (now buf) ⌝ }
     ensures { λ r. ⌜ PassSays (now (area .entry)) (now (buf .entry)) r (now (buf .exit)) ⌝ }
@@ -195,50 +195,34 @@ fn sheet_head(kind: u32, flags: u32, count: usize) -> [u8; 9]
     ]
 }
 
-// The sheet of an area whose items stand at the start of `made`, at the buffer's start, or refusal 9.
-fn put_sheet(
-    area: &[u8],
-    kind: u32,
-    flags: u32,
-    count: usize,
-    written: usize,
-    made: &[u8],
-    sheet: &mut [u8],
-) -> Reading
-    requires { ⌜ Ready kind flags (now area) count written (now made) ⌝ }
+// The sheet of an area that comes with a fit kind, flags and length, at the start of `sheet`, or the first of refusals 4 to 9. Its items
+// are laid into `buf` and copied from there, so that nothing is written before every refusal is ruled out.
+fn lay(area: &[u8], kind: u32, flags: u32, buf: &mut [u8], sheet: &mut [u8]) -> Reading
+    requires { ⌜ (arrivalOf kind flags (length (now area)) ≡ Fit) × (2 * length (now area) ≤ length (now buf)) ⌝ }
     ensures { λ r. ⌜ Read kind flags (now (area .entry)) (now (sheet .entry)) r (now (sheet .exit)) ⌝ }
 {
-    let needed = 9 + written;
-    if sheet.len() < needed {
-        return Reading::Refused(Refusal {
-            number: 9,
-            second: needed,
-        });
-    }
-    let head = sheet_head(kind, flags, count);
-    octets::copy_at(sheet, 0, &head);
-    octets::copy_at(sheet, 9, &made[..written]);
-    Reading::Sheet(needed)
-}
-
-// The sheet of an area that comes with a fit kind, flags and length, at the buffer's start, or the first of refusals 4 to 9. One pass
-// over the area tests the framing and lays the items into `made`, so that a refusal finds the sheet's buffer as it was.
-fn lay(area: &[u8], kind: u32, flags: u32, made: &mut [u8], sheet: &mut [u8]) -> Reading
-    requires { ⌜ (arrivalOf kind flags (length (now area)) ≡ Fit) × (2 * length (now area) ≤ length (now made)) ⌝ }
-    ensures { λ r. ⌜ Read kind flags (now (area .entry)) (now (sheet .entry)) r (now (sheet .exit)) ⌝ }
-{
-    match put_items(area, made) {
+    match put_items(area, buf) {
         Tally::Broken(refusal) => {
             return Reading::Refused(refusal);
         }
         Tally::Whole { count, written } => {
-            return put_sheet(area, kind, flags, count, written, made, sheet);
+            let needed = 9 + written;
+            if sheet.len() < needed {
+                return Reading::Refused(Refusal {
+                    number: 9,
+                    second: needed,
+                });
+            }
+            let head = sheet_head(kind, flags, count);
+            octets::copy_at(sheet, 0, &head);
+            octets::copy_at(sheet, 9, &buf[..written]);
+            return Reading::Sheet(needed);
         }
     }
 }
 
-// The same, with a buffer for the items that is long enough for any area, or for most, which takes less time to clear.
-fn lay_somewhere(area: &[u8], kind: u32, flags: u32, sheet: &mut [u8]) -> Reading
+// The same, with a buffer for the items: a short one for an area of up to 512 octets, since it takes less time to clear.
+fn sheet_of(area: &[u8], kind: u32, flags: u32, sheet: &mut [u8]) -> Reading
     requires { ⌜ arrivalOf kind flags (length (now area)) ≡ Fit ⌝ }
     ensures { λ r. ⌜ Read kind flags (now (area .entry)) (now (sheet .entry)) r (now (sheet .exit)) ⌝ }
 {
@@ -259,7 +243,7 @@ pub fn read(area: &[u8], kind: u32, flags: u32, sheet: &mut [u8]) -> Reading
             return Reading::Refused(refusal);
         }
         Arrival::Fit => {
-            return lay_somewhere(area, kind, flags, sheet);
+            return sheet_of(area, kind, flags, sheet);
         }
     }
 }

@@ -1,12 +1,12 @@
--- `sheet::put_items` meets its contract: its loop has counted and laid the items of the attributes before `place`. Assumes nothing.
+-- `sheet::put_items` meets its contract: its loop has counted the items of the attributes before `place`, and laid them.
+-- Assumes nothing.
 use Prim.Native.Nat.{_-_}
 use borrow.Author.Needs.{needs}
 use lib.ListN.{length}
-use mathlib.Core.Path.{refl}
 use native.Mathlib.Omega.{arith}
 use Rattle.area.proofs.Steps.{Stands, slice-octets, step-attribute, step-refused, step-ended}
 use Rattle.meaning.specs.Octets.{Octets}
-use Rattle.sheet.proofs.Passes.{Passing, passing-none, passing-sum, passing-laid, passing-done, passing-broken, item-small, item-fits}
+use Rattle.sheet.proofs.Passes.{Passing, passing-none, passing-sum, passing-more, passing-done, passing-broken, item-small, item-fits}
 use Rattle.sheet.proofs.put_items.Statement.{statement}
 use Rattle.sheet.proofs.put_items.Tie as tie
 
@@ -48,35 +48,41 @@ item-of-requires : tie.Need-item-of-requires Inv-loop μ-loop
 item-of-requires c κs = search needs
 
 put-item-requires : tie.Need-put-item-requires Inv-loop μ-loop
-put-item-requires c κs = let k = c .before .before .before in
+put-item-requires c κs =
+    let k = c .before .before .before in
     let i = k .before .before .before .before .loop .inv in
-    (item-small _ _ _ _ _ (stands k) (octets k) _ (c .before .item-of .ensures), item-fits _ _ _ _ _ (stands k) (octets k) _ _ (c .before .item-of .ensures) refl _ _ _ _ i _ (omega (arith, k .before .before .before .before .before .before .before .pre, i .kept)))
+    (item-small _ _ _ _ _ (stands k) (octets k) _ (c .before .item-of .ensures), item-fits _ _ _ _ _ (stands k) (octets k) _ (c .before .item-of .ensures) _ _ _ _ i (k .before .before .before .before .before .before .before .pre))
 
 stored-len-requires : tie.Need-stored-len-requires Inv-loop μ-loop
 stored-len-requires c κs = search needs
 
 add-written : tie.Need-add-written Inv-loop μ-loop
-add-written c = let k = c .before .before .before .before .before .before .before in
+add-written c =
+    let k = c .before .before .before .before .before .before .before in
     let z = k .before .before .before .before .before .before .before .good in
-    omega (arith, passing-sum _ _ _ _ _ (stands k) (octets k) _ _ (c .before .before .before .before .before .item-of .ensures) (c .stored-len .ensures) _ _ _ _ (k .before .before .before .before .loop .inv))
+    omega (arith, passing-sum _ _ _ _ _ (stands k) (octets k) _ (c .before .before .before .before .before .item-of .ensures) _ _ _ _ (k .before .before .before .before .loop .inv) _ (c .stored-len .ensures))
 
 add-written-2 : tie.Need-add-written-2 Inv-loop μ-loop
-add-written-2 c = let k = c .before .before .before .before .before .before .before in
+add-written-2 c =
+    let k = c .before .before .before .before .before .before .before in
     let z = k .before .before .before .before .before .before .before .good in
-    omega (arith, passing-sum _ _ _ _ _ (stands k) (octets k) _ _ (c .before .before .before .before .before .item-of .ensures) (c .stored-len .ensures) _ _ _ _ (k .before .before .before .before .loop .inv))
+    omega (arith, passing-sum _ _ _ _ _ (stands k) (octets k) _ (c .before .before .before .before .before .item-of .ensures) _ _ _ _ (k .before .before .before .before .loop .inv) _ (c .stored-len .ensures))
 
 add-count : tie.Need-add-count Inv-loop μ-loop
-add-count c = let k = c .before .before .before .before .before .before .before in
+add-count c =
+    let k = c .before .before .before .before .before .before .before in
     let p = k .before .before .before .before .loop .inv .passed in
     omega (arith, p .few, stands k .onwards, stands k .inside)
 
 loop-less : tie.Need-loop-less Inv-loop μ-loop
-loop-less c = let k = c .before .before .before .before .before .before .before in
+loop-less c =
+    let k = c .before .before .before .before .before .before .before in
     omega (arith, stands k .onwards, stands k .inside)
 
 loop-again : tie.Need-loop-again Inv-loop μ-loop
-loop-again c = let k = c .before .before .before .before .before .before .before in
-    passing-laid _ _ _ _ _ (stands k) (octets k) _ _ (c .before .before .before .before .before .item-of .ensures) (c .stored-len .ensures) _ _ _ _ (k .before .before .before .before .loop .inv) _ (k .before .before .before .before .before .before .before .pre) (c .before .before .before .put-item .ensures)
+loop-again c =
+    let k = c .before .before .before .before .before .before .before in
+    passing-more _ _ _ _ _ (stands k) (octets k) _ (c .before .before .before .before .before .item-of .ensures) _ _ _ _ (k .before .before .before .before .loop .inv) _ (c .stored-len .ensures) (k .before .before .before .before .before .before .before .pre) _ (c .before .before .before .put-item .kept .0) (c .before .before .before .put-item .ensures)
 
 enum-known-refusal : tie.Need-enum-known-refusal Inv-loop μ-loop
 enum-known-refusal c = search needs
@@ -85,7 +91,9 @@ same-length : tie.Need-same-length Inv-loop μ-loop
 same-length c = c .before .before .before .before .loop .inv .kept
 
 returns : tie.Need-returns Inv-loop μ-loop
-returns c = passing-broken _ _ _ _ _ _ (c .before .before .before .before .loop .inv) _ (step-refused _ _ _ (c .before .before .before .step-at .ensures) _ (c .before .refusal .given .1))
+returns c =
+    passing-broken _ _ _ _ _ _ (c .before .before .before .before .loop .inv) _
+    (step-refused _ _ _ (c .before .before .before .step-at .ensures) _ (c .before .refusal .given .1))
 
 enum-told : tie.Need-enum-told Inv-loop μ-loop
 enum-told c = search needs
@@ -94,7 +102,9 @@ same-length-2 : tie.Need-same-length-2 Inv-loop μ-loop
 same-length-2 c = c .before .before .before .loop .inv .kept
 
 returns-2 : tie.Need-returns-2 Inv-loop μ-loop
-returns-2 c = passing-done _ _ _ _ _ _ (c .before .before .before .loop .inv) (c .before .before .before .loop .inv .passed .inside) (c .before .before .before .before .before .before .pre) (step-ended _ _ _ (c .before .before .step-at .ensures) (c .enum-told .given .1))
+returns-2 c =
+    passing-done _ _ _ _ _ _ (c .before .before .before .loop .inv)
+    (step-ended _ _ _ (c .before .before .step-at .ensures) (c .enum-told .given .1))
 
 pub put-items-spec : {M : Type 1} → statement M
 put-items-spec =

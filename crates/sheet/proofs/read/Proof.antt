@@ -19,8 +19,8 @@ returns c =
 enum-told : tie.Need-enum-told
 enum-told c = search needs
 
-lay-somewhere-requires : tie.Need-lay-somewhere-requires
-lay-somewhere-requires c κs = sym (c .before .before .before .arrive .ensures) ∙ c .before .enum-told .given .1
+sheet-of-requires : tie.Need-sheet-of-requires
+sheet-of-requires c κs = sym (c .before .before .before .arrive .ensures) ∙ c .before .enum-told .given .1
 
 same-length : tie.Need-same-length
 same-length c = search needs
@@ -36,6 +36,6 @@ read-spec =
     enum-known-refusal
     returns
     enum-told
-    lay-somewhere-requires
+    sheet-of-requires
     same-length
     returns-2)

@@ -1,10 +1,9 @@
--- `sheet::lay_somewhere` meets its contract: an area has 4,076 octets at most. Assumes nothing.
+-- `sheet::sheet_of` meets its contract. Assumes nothing.
 use borrow.Author.Needs.{needs}
-use mathlib.Core.Path.{refl}
 use native.Mathlib.Omega.{arith}
-use Rattle.area.proofs.Arriving.{fit-arrived}
-use Rattle.sheet.proofs.lay_somewhere.Statement.{statement}
-use Rattle.sheet.proofs.lay_somewhere.Tie as tie
+use Rattle.sheet.proofs.Whole.{arrived-short}
+use Rattle.sheet.proofs.sheet_of.Statement.{statement}
+use Rattle.sheet.proofs.sheet_of.Tie as tie
 
 slice-aggregate-lay : tie.Need-slice-aggregate-lay
 slice-aggregate-lay c = search needs
@@ -22,7 +21,7 @@ slice-aggregate-lay-2 : tie.Need-slice-aggregate-lay-2
 slice-aggregate-lay-2 c = search needs
 
 lay-requires-2 : tie.Need-lay-requires-2
-lay-requires-2 c κs = (c .before .before .before .before .before .pre, omega (arith, fit-arrived _ _ (c .before .before .before .before .before .args .area .now) _ refl (c .before .before .before .before .before .pre) .short))
+lay-requires-2 c κs = (c .before .before .before .before .before .pre, omega (arith, arrived-short _ _ (c .before .before .before .before .before .args .area .now) (c .before .before .before .before .before .pre)))
 
 same-length-2 : tie.Need-same-length-2
 same-length-2 c = search needs
@@ -30,8 +29,8 @@ same-length-2 c = search needs
 returns-2 : tie.Need-returns-2
 returns-2 c = search needs
 
-pub lay-somewhere-spec : {M : Type 1} → statement M
-lay-somewhere-spec =
+pub sheet-of-spec : {M : Type 1} → statement M
+sheet-of-spec =
     tie.close
     (tie.spec
     slice-aggregate-lay
