@@ -1,8 +1,8 @@
 /* What changes in the hand-written code within the limits of the proved code's language and of
  * the forms that document 01 names:
  *
- * - there is no constant table that is not laid on the stack at each call: a number is told by
- *   a switch, and the kind's row of the presence table is laid on the stack;
+ * - a constant array is laid on the stack at each call: a number is told by a switch, and only
+ *   the kind's row of the presence table is laid there;
  * - every buffer is cleared before it is used, so a list of entries is counted first and laid
  *   only where there is one;
  * - digits are a struct of fifteen octets and a length, returned by value;
