@@ -179,18 +179,18 @@ written-part s d out t o i n j w j-is h p q =
     }
 
 -- the first i of s are laid over d from a place on
-pub record Begun (at : ℕ) (s d out : List ℕ) (i : ℕ) : Type 0 where
+pub record Pasted (at : ℕ) (s d out : List ℕ) (i : ℕ) : Type 0 where
   pub within : i ≤ length s
   pub room : at + length s ≤ length d
   pub kept : length out ≡ length d
   pub is : out ≡ paste d at s i
 
-pub begun-none : (at : ℕ) (s d : List ℕ) → at + length s ≤ length d → Begun at s d d 0
-begun-none at s d h = record { within = omega arith; room = h; kept = refl; is = paste-zero d at s }
+pub pasted-none : (at : ℕ) (s d : List ℕ) → at + length s ≤ length d → Pasted at s d d 0
+pasted-none at s d h = record { within = omega arith; room = h; kept = refl; is = paste-zero d at s }
 
-module _ (at : ℕ) (s d out : List ℕ) (i : ℕ) (u : Begun at s d out i) where
-  pub begun-more : i < length s → Begun at s d (set out (at + i) (getD s i 0)) (i + 1)
-  begun-more h =
+module _ (at : ℕ) (s d out : List ℕ) (i : ℕ) (u : Pasted at s d out i) where
+  pub pasted-more : i < length s → Pasted at s d (set out (at + i) (getD s i 0)) (i + 1)
+  pasted-more h =
       record {
         within = omega arith;
         room = u .room;
@@ -198,9 +198,9 @@ module _ (at : ℕ) (s d out : List ℕ) (i : ℕ) (u : Begun at s d out i) wher
         is = ap (λ (o : List ℕ). set o (at + i) (getD s i 0)) (u .is) ∙ paste-suc d at s i 0 (omega (arith, u .room)) h ∙ ap (paste d at s) (sym (add-one i));
       }
 
-  pub begun-all : length s ≤ i → out ≡ laidAt at s d
+  pub pasted-all : length s ≤ i → out ≡ laidAt at s d
   unfolding over
-  begun-all h =
+  pasted-all h =
       let e : i ≡ length s = omega (arith, u .within) in
       u .is
       ∙ rw (e, take-length s) (append-assoc (take at d) s (drop (at + length s) d))
@@ -214,12 +214,12 @@ eachTo at s d (suc n) = set (eachTo at s d n) (at + suc n) (getD s (suc n) 0)
 
 -- Stored one behind the other, octets are laid there.
 module _ (at : ℕ) (s d : List ℕ) (room : at + length s ≤ length d) where
-  each-begun : (n : ℕ) → n < length s → Begun at s d (eachTo at s d n) (suc n)
-  each-begun zero h = rw (add-zero at) at (begun-more at s d d 0 (begun-none at s d room) h)
-  each-begun (suc n) h = rw (add-one (suc n)) at (begun-more at s d (eachTo at s d n) (suc n) (each-begun n (omega arith)) h)
+  each-pasted : (n : ℕ) → n < length s → Pasted at s d (eachTo at s d n) (suc n)
+  each-pasted zero h = rw (add-zero at) at (pasted-more at s d d 0 (pasted-none at s d room) h)
+  each-pasted (suc n) h = rw (add-one (suc n)) at (pasted-more at s d (eachTo at s d n) (suc n) (each-pasted n (omega arith)) h)
 
   pub each-laid : (n : ℕ) → length s ≡ suc n → eachTo at s d n ≡ laidAt at s d
-  each-laid n e = begun-all at s d (eachTo at s d n) (suc n) (each-begun n (omega arith)) (omega arith)
+  each-laid n e = pasted-all at s d (eachTo at s d n) (suc n) (each-pasted n (omega arith)) (omega arith)
 
 -- Laid one behind the other, two pieces stand as one.
 pub laid-two : (at n : ℕ) (s t d : List ℕ) → length s ≡ n → at + (n + length t) ≤ length d → laidAt (at + n) t (laidAt at s d) ≡ laidAt at (s ++ t) d

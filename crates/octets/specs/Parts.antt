@@ -36,3 +36,8 @@ laidAt at s d = cond (fitsAt at s d) (take at d ++ over s (drop at d)) d
 pub record Laid (at : ℕ) (s d : List ℕ) (said : Bool) (held : List ℕ) : Type 0 where
   pub says : said ≡ fitsAt at s d
   pub holds : held ≡ laidAt at s d
+
+-- out is the buffer d with the octets s at a place: what stands before is kept, and nothing is said of what stands behind
+pub record Begun (at : ℕ) (s d out : List ℕ) : Type 0 where
+  pub kept : length out ≡ length d
+  pub is : take (at + length s) out ≡ take at d ++ s

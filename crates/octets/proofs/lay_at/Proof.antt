@@ -3,18 +3,18 @@ use borrow.Author.Needs.{needs}
 use Prim.Native.Nat.{_-_}
 use native.Mathlib.Omega.{arith}
 use lib.ListN.{length}
-use Rattle.octets.proofs.Overs.{Begun, begun-none, begun-more, begun-all}
+use Rattle.octets.proofs.Overs.{Pasted, pasted-none, pasted-more, pasted-all}
 use Rattle.octets.proofs.lay_at.Statement.{statement}
 use Rattle.octets.proofs.lay_at.Tie as tie
 
 abbrev Inv-loop : tie.InvT-loop
-Inv-loop buf₀ at s i₀ buf i = Begun at s buf₀ buf i
+Inv-loop buf₀ at s i₀ buf i = Pasted at s buf₀ buf i
 
 abbrev μ-loop : tie.MeasureT-loop
 μ-loop buf₀ at s i₀ buf i = length s - i
 
 loop-holds : tie.Need-loop-holds Inv-loop μ-loop
-loop-holds c = begun-none _ _ _ (c .pre)
+loop-holds c = pasted-none _ _ _ (c .pre)
 
 shared-slice-read-buf : tie.Need-shared-slice-read-buf Inv-loop μ-loop
 shared-slice-read-buf c = search needs
@@ -32,13 +32,13 @@ loop-less : tie.Need-loop-less Inv-loop μ-loop
 loop-less c = search needs
 
 loop-again : tie.Need-loop-again Inv-loop μ-loop
-loop-again c = begun-more _ _ _ _ _ (c .before .before .loop .inv) (omega arith)
+loop-again c = pasted-more _ _ _ _ _ (c .before .before .loop .inv) (omega arith)
 
 same-length : tie.Need-same-length Inv-loop μ-loop
 same-length c = search needs
 
 returns : tie.Need-returns Inv-loop μ-loop
-returns c = begun-all _ _ _ _ _ (c .before .loop .inv) (omega arith)
+returns c = pasted-all _ _ _ _ _ (c .before .loop .inv) (omega arith)
 
 pub lay-at-spec : {M : Type 1} → statement M
 lay-at-spec =
