@@ -65,7 +65,7 @@ secondTold n s all = cond (eqb n 3) (all - 2) s
 
 -- octets with zeros behind them, and how many they are
 unfoldable pub textOf : List ℕ → Text
-textOf l = record { octets = padded 50 l; len = length l }
+textOf l = record { octets = padded 50 0 l; len = length l }
 
 -- a text with octets behind it, if they fit; else the text as it was
 unfoldable pub followed : Text → List ℕ → Text

@@ -1,21 +1,19 @@
 -- Laws of digit strings: when a text is one, and that its packed digits are what document 01 stores. Assumes nothing.
-use mathlib.Core.Path.{_≡_, sym, ap, _∙_}
+use mathlib.Core.Path.{_≡_, ap, _∙_}
 use mathlib.Core.Bool.{true, false, and-false}
 use mathlib.Core.List.{List, [], _∷_}
 use Prim.Native.Nat.{ℕ, _<_, _≤_, min}
 use native.Mathlib.Omega.{arith}
 use borrow.Author.Tests.{le-leb, lt-leb}
 use lib.Dec.{T}
-use lib.ListN.{length, drop, replicate}
-use Rattle.meaning.specs.Octets.{all, isDigit, values, pack}
-use Rattle.meaning.specs.Answers.{over}
-use Rattle.meaning.proofs.Packing.{values-length, values-halves, digits-hexes}
+use lib.ListN.{length, length-take}
+use Rattle.meaning.specs.Octets.{all, isDigit, values, pack, packedLength}
+use Rattle.meaning.proofs.Packing.{Halves, values-length, values-halves, digits-hexes}
 use Rattle.meaning.proofs.Tests.{passes, is-true}
 use Rattle.octets.specs.declared.Digits.{Digits}
-use Rattle.octets.specs.DigitStrings.{halves, padded, digitsOf, gotOf, heldOf, packedOf}
-use Rattle.octets.specs.Parts.{Written}
-use Rattle.octets.proofs.Overs.{written-all}
-use Rattle.octets.proofs.Halves.{halves-length, halves-values, halves-modulo, held-front}
+use Rattle.octets.specs.DigitStrings.{padded, digitsOf, gotOf, heldOf, eightOf, packedOf}
+use Rattle.octets.proofs.Parts.{placed, all-placed}
+use Rattle.octets.proofs.Halves.{halves-modulo, held-packed, held-all, padded-length, padded-halves, padded-front}
 
 -- ---- When a text is a digit string
 
@@ -46,35 +44,36 @@ module _ (l : List ℕ) where
   unfolding digitsOf
   got-none e = rw (got-other e)
 
--- what the loop has written is what is got
-pub got-written : (l octets : List ℕ) (i : ℕ) → Written (halves l) (replicate 15 0) octets i → length l ≤ 15 → all isDigit l ≡ true → length l ≤ i → _≡_ {A = Digits} (record { octets = octets; len = i }) (gotOf l)
-unfolding digitsOf padded values
-got-written l octets i w b e h =
-    let t = passes (all isDigit l) e in
-    let same : halves l ≡ values l = halves-values l (digits-hexes l t) in
-    let o : octets ≡ over (values l) (replicate 15 0) = written-all _ _ _ _ w (omega (arith, halves-length l)) ∙ ap (λ (v : List ℕ). over v (replicate 15 0)) same in
-    let n : i ≡ length (values l) = omega (arith, w .within, halves-length l, values-length l) in
-    (λ k. record { octets = o k; len = n k }) ∙ sym (whole l b t)
-  where
-    whole : (l : List ℕ) → length l ≤ 15 → T (all isDigit l) → gotOf l ≡ digitsOf (values l)
-    whole [] b t = got-short [] (omega arith)
-    whole (x ∷ l) b t = got-digits (x ∷ l) (omega arith) b t
+-- an empty text is the text of no digits
+pub got-whole : (l : List ℕ) → length l ≤ 15 → T (all isDigit l) → gotOf l ≡ digitsOf (values l)
+unfolding values
+got-whole [] b t = got-short [] (omega arith)
+got-whole (x ∷ l) b t = got-digits (x ∷ l) (omega arith) b t
 
 -- ---- What is packed
 
--- the digits that are laid are those that a digit string holds
-pub packed-over : (d : Digits) (n : ℕ) (buf out : List ℕ) → n ≡ min (d .len) 15 → out ≡ over (pack (heldOf n (d .octets))) buf → out ≡ over (packedOf d) buf
+pub eight-length : (d : Digits) → length (eightOf d) ≡ 8
+unfolding eightOf
+eight-length d = held-packed 15 (d .octets)
+
+pub packed-length : (d : Digits) → length (packedOf d) ≡ packedLength (min (d .len) 15)
 unfolding packedOf
-packed-over d n buf out e h = h ∙ ap (λ (m : ℕ). over (pack (heldOf m (d .octets))) buf) e
+packed-length d = length-take (packedLength (min (d .len) 15)) (eightOf d) ∙ omega (arith, eight-length d)
 
-module _ (l : List ℕ) (some : 1 ≤ length l) (few : length l ≤ 15) (t : T (all isDigit l)) where
-  held-values : heldOf (min (length (values l)) 15) (padded 15 (values l)) ≡ values l
-  unfolding padded over
-  held-values =
-      let n : min (length (values l)) 15 ≡ length (values l) = omega (arith, values-length l) in
-      rw (n, held-front (values l) (drop (length (values l)) (replicate 15 0))) (halves-modulo (values l) (values-halves l (digits-hexes l t)))
+-- eight octets, each by the places of its two digits
+pub eight-placed : (d : Digits) → length (d .octets) ≡ 15 → pack (heldOf 15 (placed (d .octets) 0 0 15)) ≡ eightOf d
+unfolding eightOf
+eight-placed d e = ap (λ (l : List ℕ). pack (heldOf 15 l)) (all-placed (d .octets) 15 e)
 
-  -- A digit string is packed in the octets that document 01 stores: "two to an octet, first in the high half; an odd last low half is 15".
-  pub packed-as-stored : packedOf (gotOf l) ≡ pack (values l)
-  unfolding packedOf digitsOf
-  packed-as-stored = rw (got-digits l some few t) (ap pack held-values)
+-- Of at most fifteen digits the octets are those that document 01 stores: "two to an octet, first in the high half; an odd last
+-- low half is 15".
+pub packed-digits : (l : List ℕ) → length l ≤ 15 → Halves l → packedOf (digitsOf l) ≡ pack l
+unfolding packedOf eightOf digitsOf
+packed-digits l few h =
+    let n : min (length l) 15 ≡ length l = omega arith in
+    let held : heldOf 15 (padded 15 15 l) ≡ padded 15 15 l = rw (padded-length l 15 few) at (held-all (padded 15 15 l)) ∙ halves-modulo (padded 15 15 l) (padded-halves l 15 few h) in
+    rw (n, held) (padded-front l 15 few)
+
+-- So it is with the digits that a text holds.
+pub packed-as-stored : (l : List ℕ) → 1 ≤ length l → length l ≤ 15 → T (all isDigit l) → packedOf (gotOf l) ≡ pack (values l)
+packed-as-stored l some few t = rw (got-digits l some few t) (packed-digits (values l) (omega (arith, values-length l)) (values-halves l (digits-hexes l t)))

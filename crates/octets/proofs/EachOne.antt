@@ -1,9 +1,10 @@
 -- A test at each of a list, by a loop from the left: once over the test. Assumes nothing.
 use mathlib.Core.Path.{_≡_, refl, sym, ap, _∙_}
-use mathlib.Core.Bool.{Bool, true, false, _&&_, and-true, and-assoc}
-use mathlib.Core.List.{List}
-use Prim.Native.Nat.{ℕ, _+_, _<_, _≤_}
+use mathlib.Core.Bool.{Bool, true, false, _&&_, and-true, and-false, and-assoc}
+use mathlib.Core.List.{List, [], _∷_}
+use Prim.Native.Nat.{ℕ, zero, suc, _+_, _<_, _≤_}
 use native.Mathlib.Numerals.{add-one}
+use native.Mathlib.Omega.{arith}
 use lib.ListN.{length, drop, getD, drop-of-length-le}
 use lib.Seq.{drop-cons}
 use Rattle.meaning.specs.Octets.{all}
@@ -27,3 +28,9 @@ module _ (p : ℕ → Bool) (s : List ℕ) (i : ℕ) (ok : Bool) (u : Tested p s
 
   pub tested-all : length s ≤ i → ok ≡ all p s
   tested-all h = sym (u .rest ∙ ap (λ (r : Bool). ok && r) (ap (all p) (drop-of-length-le s h)) ∙ and-true ok)
+
+-- one that fails decides, wherever it stands
+pub one-fails : (p : ℕ → Bool) (s : List ℕ) (i : ℕ) → i < length s → p (getD s i 0) ≡ false → all p s ≡ false
+one-fails p [] i h e = absurd (omega arith)
+one-fails p (x ∷ s) zero h e = rw e
+one-fails p (x ∷ s) (suc i) h e = rw (one-fails p s i (omega arith) e) (and-false (p x))

@@ -5,12 +5,12 @@ use Prim.Native.Nat.{ℕ, zero, suc, _+_, _*_, _/_, _%_, _<_, _≤_}
 use native.Mathlib.Omega.{arith}
 use native.Mathlib.Nat.{mod-eq-of-lt}
 use lib.Dec.{T}
-use lib.ListN.{length, getD, set, length-map, List·getD-eq-default}
+use lib.ListN.{length, take, getD, replicate, length-map, length-replicate, List·getD-eq-default}
 use Rattle.meaning.specs.Octets.{all, pack, packedLength, isHex, digitValue, values}
 use Rattle.meaning.proofs.Packing.{Halves, pack-length, values-halves}
-use Rattle.octets.specs.DigitStrings.{halves, heldOf}
-use Rattle.octets.specs.Parts.{Written}
-use Rattle.octets.proofs.Overs.{written-more}
+use Rattle.meaning.specs.Answers.{over}
+use Rattle.octets.specs.DigitStrings.{halves, padded, heldOf}
+use Rattle.octets.proofs.Overs.{over-length}
 
 -- The octet at a place is the pair of halves from twice the place on; "an odd last low half is 15".
 pair-at : (l : List ℕ) (i : ℕ) → i < packedLength (length l) → getD (pack l) i 0 ≡ getD l (2 * i) 15 * 16 + getD l (2 * i + 1) 15
@@ -32,14 +32,14 @@ map-at f (x ∷ l) (suc k) d e h = map-at f l k d e (omega arith)
 -- ---- The halves of a text
 
 module _ (l : List ℕ) where
-  pub halves-length : length (halves l) ≡ length l
+  halves-length : length (halves l) ≡ length l
   unfolding halves
   halves-length = length-map l (λ x. digitValue x % 16)
 
   pub halves-packed : length (pack (halves l)) ≡ packedLength (length l)
   halves-packed = pack-length (halves l) ∙ ap packedLength halves-length
 
-  pub halves-at : (k e : ℕ) → k < length l → getD (halves l) k e ≡ digitValue (getD l k 0) % 16
+  halves-at : (k e : ℕ) → k < length l → getD (halves l) k e ≡ digitValue (getD l k 0) % 16
   unfolding halves
   halves-at k e h = map-at (λ x. digitValue x % 16) l k 0 e h
 
@@ -70,7 +70,7 @@ values-modulo [] = refl
 values-modulo (x ∷ l) = ap (λ (m : List ℕ). (digitValue x % 16) ∷ m) (values-modulo l)
 
 -- The halves of decimal or hexadecimal digits are what these stand for.
-pub halves-values : (l : List ℕ) → T (all isHex l) → halves l ≡ values l
+halves-values : (l : List ℕ) → T (all isHex l) → halves l ≡ values l
 halves-values l t = values-modulo l ∙ halves-modulo (values l) (values-halves l t)
 
 -- So the packed halves of such a text are what document 01 stores for it.
@@ -85,38 +85,53 @@ held-length zero l = refl
 held-length (suc n) [] = ap suc (held-length n [])
 held-length (suc n) (x ∷ l) = ap suc (held-length n l)
 
-held-at : (n : ℕ) (l : List ℕ) (k : ℕ) → k < n → getD (heldOf n l) k 15 ≡ getD l k 0 % 16
+pub held-packed : (n : ℕ) (l : List ℕ) → length (pack (heldOf n l)) ≡ packedLength n
+held-packed n l = pack-length (heldOf n l) ∙ ap packedLength (held-length n l)
+
+-- all of them, each modulo 16
+pub held-all : (l : List ℕ) → heldOf (length l) l ≡ map (λ x. x % 16) l
 unfolding heldOf
-held-at zero l k h = absurd (omega arith)
-held-at (suc n) [] zero h = refl
-held-at (suc n) [] (suc k) h = held-at n [] k (omega arith)
-held-at (suc n) (x ∷ l) zero h = refl
-held-at (suc n) (x ∷ l) (suc k) h = held-at n l k (omega arith)
+held-all [] = refl
+held-all (x ∷ l) = ap (λ (m : List ℕ). (x % 16) ∷ m) (held-all l)
 
--- of octets that are there, each modulo 16
-pub held-front : (l r : List ℕ) → heldOf (length l) (l ++ r) ≡ map (λ x. x % 16) l
-unfolding heldOf
-held-front [] r = refl
-held-front (x ∷ l) r = ap (λ (m : List ℕ). (x % 16) ∷ m) (held-front l r)
+-- ---- Halves with 15s behind them
 
-module _ (n : ℕ) (l : List ℕ) where
-  pub held-packed : length (pack (heldOf n l)) ≡ packedLength n
-  held-packed = pack-length (heldOf n l) ∙ ap packedLength (held-length n l)
+fifteens : (n : ℕ) → Halves (replicate n 15)
+fifteens zero = tt
+fifteens (suc n) = (omega arith, fifteens n)
 
-  held-past : (k : ℕ) → n ≤ k → getD (heldOf n l) k 15 ≡ 15
-  held-past k h = List·getD-eq-default (heldOf n l) 15 (omega (arith, held-length n l))
+pub padded-length : (l : List ℕ) (n : ℕ) → length l ≤ n → length (padded n 15 l) ≡ n
+unfolding padded
+padded-length l n h = over-length l (replicate n 15) (omega (arith, length-replicate {A = ℕ} n 15)) ∙ length-replicate {A = ℕ} n 15
 
-  -- a loop over the octets has written the pairs before i, and writes the next, or an odd last digit
-  pub two-held : (d out : List ℕ) (i x : ℕ) → Written (pack (heldOf n l)) d out i → i < n / 2 → x ≡ getD l (2 * i) 0 % 16 * 16 + getD l (2 * i + 1) 0 % 16 → Written (pack (heldOf n l)) d (set out i x) (i + 1)
-  two-held d out i x w h r =
-      written-more (pack (heldOf n l)) d out i x w (omega (arith, held-packed))
-      (r
-      ∙ ap₂ (λ (a b : ℕ). a * 16 + b) (sym (held-at n l (2 * i) (omega arith))) (sym (held-at n l (2 * i + 1) (omega arith)))
-      ∙ sym (pair-at (heldOf n l) i (omega (arith, held-length n l))))
+pub padded-halves : (l : List ℕ) (n : ℕ) → length l ≤ n → Halves l → Halves (padded n 15 l)
+unfolding padded over
+padded-halves [] n h k = fifteens n
+padded-halves (x ∷ l) zero h k = absurd (omega arith)
+padded-halves (x ∷ l) (suc n) h k = (k .0, padded-halves l n (omega arith) (k .1))
 
-  pub one-held : (d out : List ℕ) (i x : ℕ) → Written (pack (heldOf n l)) d out i → n / 2 ≤ i → 2 * i < n → x ≡ getD l (2 * i) 0 % 16 * 16 + 15 → Written (pack (heldOf n l)) d (set out i x) (i + 1)
-  one-held d out i x w h k r =
-      written-more (pack (heldOf n l)) d out i x w (omega (arith, held-packed))
-      (r
-      ∙ ap₂ (λ (a b : ℕ). a * 16 + b) (sym (held-at n l (2 * i) k)) (sym (held-past (2 * i + 1) (omega arith)))
-      ∙ sym (pair-at (heldOf n l) i (omega (arith, held-length n l))))
+-- The octets that they are packed in begin with those of the halves: "an odd last low half is 15".
+pub padded-front : (l : List ℕ) (n : ℕ) → length l ≤ n → take (packedLength (length l)) (pack (padded n 15 l)) ≡ pack l
+unfolding padded over pack
+padded-front [] n h = refl
+padded-front (a ∷ []) zero h = absurd (omega arith)
+padded-front (a ∷ []) (suc zero) h = refl
+padded-front (a ∷ []) (suc (suc n)) h = refl
+padded-front (a ∷ b ∷ l) zero h = absurd (omega arith)
+padded-front (a ∷ b ∷ l) (suc zero) h = absurd (omega arith)
+padded-front (a ∷ b ∷ l) (suc (suc n)) h =
+    let e : packedLength (suc (suc (length l))) ≡ suc (packedLength (length l)) = omega arith in
+    rw e (ap (λ (m : List ℕ). (a * 16 + b) ∷ m) (padded-front l n (omega arith)))
+
+-- Two 15s more are an octet more.
+pub padded-more : (l : List ℕ) (n : ℕ) → length l ≤ n → pack (padded (suc (suc n)) 15 l) ≡ pack (padded n 15 l) ++ (255 ∷ [])
+unfolding padded over pack
+padded-more [] zero h = refl
+padded-more [] (suc zero) h = refl
+padded-more [] (suc (suc n)) h = ap (λ (m : List ℕ). 255 ∷ m) (padded-more [] n (omega arith))
+padded-more (a ∷ []) zero h = absurd (omega arith)
+padded-more (a ∷ []) (suc zero) h = refl
+padded-more (a ∷ []) (suc (suc n)) h = ap (λ (m : List ℕ). (a * 16 + 15) ∷ m) (padded-more [] n (omega arith))
+padded-more (a ∷ b ∷ l) zero h = absurd (omega arith)
+padded-more (a ∷ b ∷ l) (suc zero) h = absurd (omega arith)
+padded-more (a ∷ b ∷ l) (suc (suc n)) h = ap (λ (m : List ℕ). (a * 16 + b) ∷ m) (padded-more l n (omega arith))

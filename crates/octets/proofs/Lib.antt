@@ -5,4 +5,5 @@ pub mod Begun
 pub mod EachOne
 pub mod Halves
 pub mod DigitStrings
+pub mod Gathering
 pub mod Unpacking

@@ -105,10 +105,6 @@ written-on s d out out′ i j w v h =
 pub written-end : (s d out out′ : List ℕ) (i : ℕ) → Written s d out i → out′ ≡ over s out → out′ ≡ over s d
 written-end s d out out′ i w e = e ∙ ap (over s) (w .is) ∙ over-again s (take i s) d (omega (arith, length-take-le i s (w .within), w .within))
 
--- what is written, by another name
-pub written-as : (s d out o : List ℕ) (i j : ℕ) → Written s d o j → out ≡ o → i ≡ j → Written s d out i
-written-as s d out o i j w p q = rw (p, q) w
-
 -- ---- From a place on
 
 -- whether n octets fit, told by the room that is left from the place on

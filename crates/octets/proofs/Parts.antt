@@ -1,8 +1,8 @@
--- Laws of a part of octets: its length, four octets by their places, and that it holds octets. Assumes nothing.
-use mathlib.Core.Path.{_≡_, refl, sym, ap, ap₂, _∙_}
+-- Laws of a part of octets: its length, its octets by their places, and that it holds octets. Assumes nothing.
+use mathlib.Core.Path.{_≡_, refl, sym, ap, _∙_}
 use mathlib.Core.List.{List, [], _∷_}
-use Prim.Native.Nat.{ℕ, suc, _+_, _-_, _^_, _<_, _≤_, min}
-use native.Mathlib.Nat.{pow-le-pow-right}
+use Prim.Native.Nat.{ℕ, zero, suc, _+_, _-_, _^_, _<_, _≤_, min}
+use native.Mathlib.Nat.{pow-le-pow-right, add-zero}
 use native.Mathlib.Omega.{arith}
 use lib.ListN.{length, take, drop, getD, length-take, length-drop, drop-of-length-le}
 use lib.Seq.{take-all, take-nil, drop-cons}
@@ -34,14 +34,28 @@ part-rest l at n h = take-all n (drop at l) (omega (arith, length-drop at l))
 pub part-to-end : (l : List ℕ) (at n : ℕ) → length l - at ≤ n → take (length l - at) (drop at l) ≡ partOf l at n
 part-to-end l at n h = take-all (length l - at) (drop at l) (omega (arith, length-drop at l)) ∙ sym (part-rest l at n h)
 
--- four octets that are there, by their places
-pub part-four : (l : List ℕ) (at a b c d : ℕ) → at + 4 ≤ length l → a ≡ getD l at 0 → b ≡ getD l (at + 1) 0 → c ≡ getD l (at + 2) 0 → d ≡ getD l (at + 3) 0 → a ∷ b ∷ c ∷ d ∷ [] ≡ partOf l at 4
+-- the octets of l from the place at + k on, by their places
+abbrev pub placed : (l : List ℕ) (at k n : ℕ) → List ℕ
+placed l at k zero = []
+placed l at k (suc n) = getD l (at + k) 0 ∷ placed l at (suc k) n
+
+placed-part : (l : List ℕ) (at k n : ℕ) → at + (k + n) ≤ length l → placed l at k n ≡ partOf l (at + k) n
 unfolding partOf
-part-four l at a b c d h p q r t =
-    sym (ap (take 4) (more at (at + 1) a _ (omega arith) (omega arith) p (more (at + 1) (at + 2) b _ (omega arith) (omega arith) q (more (at + 2) (at + 3) c _ (omega arith) (omega arith) r (more (at + 3) (at + 4) d _ (omega arith) (omega arith) t refl)))))
-  where
-    more : (i next x : ℕ) (rest : List ℕ) → suc i ≡ next → i < length l → x ≡ getD l i 0 → drop next l ≡ rest → drop i l ≡ x ∷ rest
-    more i next x rest e g f k = drop-cons l i 0 g ∙ ap₂ _∷_ (sym f) (ap (λ (n : ℕ). drop n l) e ∙ k)
+placed-part l at k zero h = refl
+placed-part l at k (suc n) h =
+    let next : at + suc k ≡ suc (at + k) = omega arith in
+    ap (λ (m : List ℕ). getD l (at + k) 0 ∷ m) (placed-part l at (suc k) n (omega arith) ∙ ap (λ (i : ℕ). take n (drop i l)) next)
+    ∙ sym (ap (take (suc n)) (drop-cons l (at + k) 0 (omega arith)))
+
+-- A part that is there has its octets one behind the other.
+pub part-placed : (l : List ℕ) (at n : ℕ) → at + n ≤ length l → placed l at 0 n ≡ partOf l at n
+part-placed l at n h = placed-part l at 0 n (omega arith) ∙ ap (λ (i : ℕ). partOf l i n) (add-zero at)
+
+pub all-placed : (l : List ℕ) (n : ℕ) → length l ≡ n → placed l 0 0 n ≡ l
+all-placed l n e = part-placed l 0 n (omega arith) ∙ part-rest l 0 n (omega arith)
+
+pub part-four : (l : List ℕ) (at a b c d : ℕ) → at + 4 ≤ length l → a ≡ getD l at 0 → b ≡ getD l (at + 1) 0 → c ≡ getD l (at + 2) 0 → d ≡ getD l (at + 3) 0 → a ∷ b ∷ c ∷ d ∷ [] ≡ partOf l at 4
+part-four l at a b c d h p q r t = rw (p, q, r, t) (rw (add-zero at) at (part-placed l at 4 h))
 
 -- a part of octets holds octets
 pub part-octets : (l : List ℕ) (at n : ℕ) → Octets l → Octets (partOf l at n)

@@ -4,7 +4,7 @@ use Prim.Native.Nat.{ℕ, zero, suc, _+_, _%_, min}
 use mathlib.Core.Bool.{Bool, cond, _&&_}
 use mathlib.Core.List.{List, [], _∷_, map}
 use lib.Dec.{eqb}
-use lib.ListN.{length, replicate}
+use lib.ListN.{length, take, replicate}
 use Rattle.meaning.specs.Octets.{between, all, same, isDigit, digitValue, values, text, pack, unpack, packedLength}
 use Rattle.meaning.specs.Answers.{over}
 use Rattle.octets.specs.declared.Digits.{Digits}
@@ -13,13 +13,13 @@ use Rattle.octets.specs.declared.Digits.{Digits}
 unfoldable pub halves : List ℕ → List ℕ
 halves = map (λ x. digitValue x % 16)
 
--- octets with zeros behind them, to a width
-unfoldable pub padded : (width : ℕ) → List ℕ → List ℕ
-padded w l = over l (replicate w 0)
+-- octets with one and the same behind them, to a width
+unfoldable pub padded : (width fill : ℕ) → List ℕ → List ℕ
+padded w x l = over l (replicate w x)
 
--- so many digits, by their values
+-- so many digits, by their values, with 15s behind them
 unfoldable pub digitsOf : List ℕ → Digits
-digitsOf l = record { octets = padded 15 l; len = length l }
+digitsOf l = record { octets = padded 15 15 l; len = length l }
 
 -- the digits of a text of 1 to 15 decimal digits; none of any other
 unfoldable pub gotOf : List ℕ → Digits
@@ -31,9 +31,13 @@ heldOf zero l = []
 heldOf (suc n) [] = 0 ∷ heldOf n []
 heldOf (suc n) (x ∷ l) = (x % 16) ∷ heldOf n l
 
+-- the fifteen octets of digits, each modulo 16, two to an octet: eight octets, the last low half of which is 15
+unfoldable pub eightOf : Digits → List ℕ
+eightOf d = pack (heldOf 15 (d .octets))
+
 -- digits two to an octet; fifteen at most, whatever the count says
 unfoldable pub packedOf : Digits → List ℕ
-packedOf d = pack (heldOf (min (d .len) 15) (d .octets))
+packedOf d = take (packedLength (min (d .len) 15)) (eightOf d)
 
 -- the way back: octets are so many decimal digits, two to an octet, and nothing else
 unfoldable pub packedDigits : (count : ℕ) → List ℕ → Bool

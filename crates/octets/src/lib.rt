@@ -1,7 +1,7 @@
 // Octets, as document 01 takes them for granted: parts of a slice, numbers with the high octet first, octets laid over a
 // buffer, digit strings, and digits two to an octet. Each public function takes any arguments.
 ghost use mathlib.Core.Path.{_≡_};
-ghost use Prim.Native.Nat.{_+_, _*_, _/_, _%_, _<_, _≤_, min};
+ghost use Prim.Native.Nat.{_+_, _*_, _/_, _%_, _^_, _<_, _≤_, min};
 ghost use mathlib.Core.Bool.{_&&_};
 ghost use mathlib.Core.List.{[]};
 ghost use lib.Dec.{eqb, leb};
@@ -9,9 +9,9 @@ ghost use lib.ListN.{length, getD};
 ghost use Rattle.meaning.specs.Octets.{all, numberOf, octetsOf, pack, unpack, packedLength, isDigit, isHex, digitValue, digitText, text};
 ghost use Rattle.meaning.specs.Answers.{over};
 ghost use Rattle.octets.specs.Parts.{partOf, Numbered, Written, laidAt, Laid};
-ghost use Rattle.octets.specs.DigitStrings.{halves, digitsOf, heldOf, gotOf, packedOf, packedDigits, decimals};
+ghost use Rattle.octets.specs.DigitStrings.{halves, digitsOf, gotOf, eightOf, packedDigits, decimals};
 
-// "at most fifteen digits together with their count": the digits' values, with zeros behind them.
+// "at most fifteen digits together with their count": the digits' values, with 15s behind them.
 pub struct Digits {
     pub octets: [u8; 15],
     pub len: usize,
@@ -290,38 +290,6 @@ pub fn all_hex(s: &[u8]) -> bool
     ok
 }
 
-// No digits.
-fn none() -> Digits
-    ensures { λ r. ⌜ r ≡ digitsOf [] ⌝ }
-{
-    Digits {
-        octets: [0u8; 15],
-        len: 0,
-    }
-}
-
-// The digits of a text of 1 to 15 decimal digits; none of any other.
-pub fn digits_of(text: &[u8]) -> Digits
-    ensures { λ r. ⌜ r ≡ gotOf (now (text .entry)) ⌝ }
-{
-    if 15 < text.len() {
-        return none();
-    }
-    let mut d = none();
-    let mut i: usize = 0;
-    while i < text.len() {
-        let x = text[i];
-        if !is_digit(x) {
-            return none();
-        }
-        let half = half_of(x);
-        d.octets[i] = half;
-        i += 1;
-    }
-    d.len = i;
-    d
-}
-
 // The octets that `n` halves are packed in: "half the count, rounded up".
 pub fn packed_len(n: usize) -> usize
     ensures { λ r. ⌜ r ≡ packedLength n ⌝ }
@@ -344,33 +312,93 @@ pub fn least(a: usize, b: usize) -> usize
     if a < b { a } else { b }
 }
 
-// Lays the first `count` digits two to an octet over the start of `buf`; "an odd last low half is 15".
-fn lay_digits(buf: &mut [u8], d: Digits, count: usize)
-    requires { ⌜ (count ≤ 15) × (packedLength count ≤ length (now buf)) ⌝ }
-    ensures { λ _. ⌜ now (buf .exit) ≡ over (pack (heldOf count (d .octets))) (now (buf .entry)) ⌝ }
+// No digits.
+fn none() -> Digits
+    ensures { λ r. ⌜ r ≡ digitsOf [] ⌝ }
 {
-    let pairs = count / 2;
-    let mut i: usize = 0;
-    while i < pairs {
-        buf[i] = pair(d.octets[2 * i] % 16, d.octets[2 * i + 1] % 16);
-        i += 1;
-    }
-    if 2 * i < count {
-        buf[i] = pair(d.octets[2 * i] % 16, 15);
+    Digits {
+        octets: [15u8; 15],
+        len: 0,
     }
 }
 
-// Writes digits, of fifteen at most, each modulo 16, two to an octet over `buf` from the place `at` on and says true, if they
-// fit; else changes nothing and says false.
-pub fn digits_at(buf: &mut [u8], at: usize, d: Digits) -> bool
-    ensures { λ r. ⌜ Laid at (packedOf d) (now (buf .entry)) r (now (buf .exit)) ⌝ }
+// Eight octets as a number, with one more before them and without the last of them.
+fn put_before(octet: u8, p: u64) -> u64
+    ensures { λ r. ⌜ r ≡ octet * 256 ^ 7 + p / 256 ⌝ }
 {
-    let count = least(d.len, 15);
-    if !fits(buf.len(), at, packed_len(count)) {
-        return false;
+    p / 256 + (octet as u64) * 72057594037927936
+}
+
+// The digits that eight octets hold, the high half of each first, fifteen of them, with the count of those that are meant.
+fn spread(e: [u8; 8], len: usize) -> Digits
+    ensures { λ r. ⌜ (r .octets ≡ unpack 15 e) × (r .len ≡ len) ⌝ }
+{
+    Digits {
+        octets: [
+            e[0] / 16,
+            e[0] % 16,
+            e[1] / 16,
+            e[1] % 16,
+            e[2] / 16,
+            e[2] % 16,
+            e[3] / 16,
+            e[3] % 16,
+            e[4] / 16,
+            e[4] % 16,
+            e[5] / 16,
+            e[5] % 16,
+            e[6] / 16,
+            e[6] % 16,
+            e[7] / 16,
+        ],
+        len,
     }
-    lay_digits(&mut buf[at..], d, count);
-    true
+}
+
+// The digits of a text of 1 to 15 decimal digits; none of any other. They are gathered two at a time from the end, as one number
+// that keeps them at its high end, so that none of them goes through memory.
+pub fn digits_of(text: &[u8]) -> Digits
+    ensures { λ r. ⌜ r ≡ gotOf (now (text .entry)) ⌝ }
+{
+    if 15 < text.len() {
+        return none();
+    }
+    let mut p: u64 = 18446744073709551615;
+    let mut i = text.len();
+    if i % 2 == 1 {
+        i -= 1;
+        let x = text[i];
+        if !is_digit(x) {
+            return none();
+        }
+        p = put_before(pair(x % 16, 15), p);
+    }
+    while 0 < i {
+        let x = text[i - 2];
+        let y = text[i - 1];
+        if !(is_digit(x) & is_digit(y)) {
+            return none();
+        }
+        p = put_before(pair(x % 16, y % 16), p);
+        i -= 2;
+    }
+    spread(u64_octets(p), text.len())
+}
+
+// The digits, each modulo 16, two to an octet: eight octets, the last low half of which is 15.
+pub fn packed(d: Digits) -> [u8; 8]
+    ensures { λ r. ⌜ r ≡ eightOf d ⌝ }
+{
+    [
+        pair(d.octets[0] % 16, d.octets[1] % 16),
+        pair(d.octets[2] % 16, d.octets[3] % 16),
+        pair(d.octets[4] % 16, d.octets[5] % 16),
+        pair(d.octets[6] % 16, d.octets[7] % 16),
+        pair(d.octets[8] % 16, d.octets[9] % 16),
+        pair(d.octets[10] % 16, d.octets[11] % 16),
+        pair(d.octets[12] % 16, d.octets[13] % 16),
+        pair(d.octets[14] % 16, 15),
+    ]
 }
 
 // The octet at `i` of the packed halves of a text, where the text has both of them.
@@ -381,18 +409,22 @@ fn two_halves(text: &[u8], i: usize) -> u8
     pair(half_of(text[2 * i]), half_of(text[2 * i + 1]))
 }
 
-// Writes four octets of the packed halves of a text at a place, where those before it are written.
-fn pack_four(buf: &mut [u8], text: &[u8], at: usize)
-    requires { ⌜ Written (pack (halves (now text))) (now buf) (now buf) at × (at + 4 ≤ length (now text) / 2) ⌝ }
-    ensures { λ _. ⌜ Written (pack (halves (now (text .entry)))) (now (buf .entry)) (now (buf .exit)) (at + 4) ⌝ }
+// Writes eight octets of the packed halves of a text at a place, where those before it are written.
+fn pack_eight(buf: &mut [u8], text: &[u8], at: usize)
+    requires { ⌜ Written (pack (halves (now text))) (now buf) (now buf) at × (at + 8 ≤ length (now text) / 2) ⌝ }
+    ensures { λ _. ⌜ Written (pack (halves (now (text .entry)))) (now (buf .entry)) (now (buf .exit)) (at + 8) ⌝ }
 {
-    let four = [
+    let eight = [
         two_halves(text, at),
         two_halves(text, at + 1),
         two_halves(text, at + 2),
         two_halves(text, at + 3),
+        two_halves(text, at + 4),
+        two_halves(text, at + 5),
+        two_halves(text, at + 6),
+        two_halves(text, at + 7),
     ];
-    lay_at(buf, at, &four);
+    lay_at(buf, at, &eight);
 }
 
 // Writes what is left of the packed halves of a text from a place on, where the octets before it are written; "an odd last
@@ -419,9 +451,9 @@ fn pack_text(buf: &mut [u8], text: &[u8])
 {
     let pairs = text.len() / 2;
     let mut i: usize = 0;
-    while 4 <= pairs - i {
-        pack_four(buf, text, i);
-        i += 4;
+    while 8 <= pairs - i {
+        pack_eight(buf, text, i);
+        i += 8;
     }
     pack_rest(buf, text, i);
 }

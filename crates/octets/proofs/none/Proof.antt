@@ -1,4 +1,4 @@
--- Zeros, and the count 0. Assumes nothing.
+-- Fifteens, and the count 0. Assumes nothing.
 use mathlib.Core.Path.{refl}
 use Rattle.meaning.specs.Answers.{over}
 use Rattle.octets.specs.DigitStrings.{padded, digitsOf}

@@ -22,8 +22,8 @@ loop-holds c = (written-none _ _ (omega (arith, halves-packed (c .before .before
 sub-loop : tie.Need-sub-loop Inv-loop μ-loop
 sub-loop c = search needs
 
-pack-four-requires : tie.Need-pack-four-requires Inv-loop μ-loop
-pack-four-requires c κs = (written-begun _ _ _ _ (c .before .before .loop .inv .0), omega arith)
+pack-eight-requires : tie.Need-pack-eight-requires Inv-loop μ-loop
+pack-eight-requires c κs = (written-begun _ _ _ _ (c .before .before .loop .inv .0), omega arith)
 
 add-i : tie.Need-add-i Inv-loop μ-loop
 add-i c = search needs
@@ -32,7 +32,7 @@ loop-less : tie.Need-loop-less Inv-loop μ-loop
 loop-less c = search needs
 
 loop-again : tie.Need-loop-again Inv-loop μ-loop
-loop-again c = (written-on _ _ _ _ _ _ (c .before .before .before .before .before .loop .inv .0) (c .before .before .pack-four .ensures) (omega arith), omega arith)
+loop-again c = (written-on _ _ _ _ _ _ (c .before .before .before .before .before .loop .inv .0) (c .before .before .pack-eight .ensures) (omega arith), omega arith)
 
 pack-rest-requires : tie.Need-pack-rest-requires Inv-loop μ-loop
 pack-rest-requires c κs = (written-begun _ _ _ _ (c .before .before .loop .inv .0), omega arith)
@@ -51,7 +51,7 @@ pack-text-spec =
     μ-loop
     loop-holds
     sub-loop
-    pack-four-requires
+    pack-eight-requires
     add-i
     loop-less
     loop-again
