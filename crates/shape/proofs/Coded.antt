@@ -1,13 +1,13 @@
 -- The numbers that the lines of document 01 name have the shape of their line, and any other number has none. Assumes nothing.
 use mathlib.Core.Path.{_≡_, refl, sym, ap, subst, _∙_}
-use mathlib.Core.Logic.{inl, inr, ⊎-elim}
-use mathlib.Core.Bool.{Bool, true, false, cond, _&&_, _||_, and-false}
+use mathlib.Core.Logic.{_⊎_, inl, inr, ⊎-elim}
+use mathlib.Core.Bool.{Bool, true, false, cond, not, _&&_, _||_, and-false}
 use mathlib.Core.List.{List, [], _∷_, _++_, map}
 use Prim.Native.Nat.{ℕ, zero, suc, _+_, _-_, _<_, _≤_}
 use native.Mathlib.Omega.{arith}
 use lib.Dec.{T, eqb, ltb, eqb→eq}
 use lib.ListN.{getD}
-use borrow.Author.Tests.{ne-eqb, le-ltb, lt-leb, ltb-true, ltb-false}
+use borrow.Author.Tests.{eq-eqb, ne-eqb, eqb-true, le-ltb, lt-leb, ltb-true, ltb-false}
 use types.Run.{OneOf}
 use Rattle.meaning.specs.Octets.{isIn}
 use Rattle.meaning.specs.Shapes.{Shape, number, address, digits, hexadecimal, qos, hexDigit, anyOctet, decimalDigit, atLeast, exactly, blocks, free, plainShape, gppShape, shapeOf}
@@ -114,22 +114,33 @@ ruleArms =
     ∷ (blocks, 2 ∷ [])
     ∷ []
 
--- those of the shapes that have a form of their own
-abbrev pub formArms : List Arm
-formArms =
+-- those of the shapes that have a form of their own: numbers and addresses, digits, and the others
+abbrev fourArms : List Arm
+fourArms =
     (number, 6 ∷ 40 ∷ 42 ∷ 46 ∷ 48 ∷ 258 ∷ [])
     ∷ (number, 7 ∷ 41 ∷ 43 ∷ 45 ∷ 47 ∷ 49 ∷ 61 ∷ 259 ∷ [])
     ∷ (address, 4 ∷ 8 ∷ 260 ∷ 262 ∷ [])
     ∷ (address, 9 ∷ 263 ∷ [])
-    ∷ (digits 1 15, 31 ∷ 257 ∷ [])
+    ∷ []
+
+abbrev digitArms : List Arm
+digitArms =
+    (digits 1 15, 31 ∷ 257 ∷ [])
     ∷ (digits 5 6, 264 ∷ 274 ∷ [])
     ∷ (digits 5 6, 265 ∷ [])
-    ∷ (hexadecimal, 44 ∷ [])
+    ∷ []
+
+abbrev textArms : List Arm
+textArms =
+    (hexadecimal, 44 ∷ [])
     ∷ (qos, 261 ∷ [])
     ∷ (hexDigit, 266 ∷ [])
     ∷ (anyOctet, 267 ∷ [])
     ∷ (decimalDigit, 268 ∷ [])
     ∷ []
+
+abbrev pub formArms : List Arm
+formArms = fourArms ++ (digitArms ++ textArms)
 
 -- the numbers of arms
 abbrev pub numbersOf : List Arm → List (List ℕ)
@@ -141,6 +152,10 @@ found = map (λ (a : Arm). map shapeOf (a .1))
 
 abbrev asked : List Arm → List (List Shape)
 asked = map (λ (a : Arm). map (λ k. a .0) (a .1))
+
+-- the numbers of the arms that make items: those of digits stand in one, and its neighbours 264 and 265 come behind all arms
+abbrev pub itemNumbers : List (List ℕ)
+itemNumbers = numbersOf fourArms ++ ((31 ∷ 257 ∷ 274 ∷ []) ∷ numbersOf textArms)
 
 -- the arm at a place in the order of the text, from 0 on
 abbrev pub armAt : List Arm → ℕ → Arm
@@ -167,11 +182,6 @@ in-form = in-arm formArms refl
 pub in-shape : (k n : ℕ) → OneOf (armAt (ruleArms ++ formArms) k .1) n → shapeOf n ≡ armAt (ruleArms ++ formArms) k .0
 unfolding shapeOf plainShape gppShape
 in-shape = in-arm (ruleArms ++ formArms) refl
-
--- A number in none of the arms of forms has no form of its own.
-pub form-other : (n : ℕ) → PastArms (Unit {0}) n (numbersOf formArms) → formOf (shapeOf n) ≡ 0
-unfolding shapeOf plainShape gppShape formOf
-form-other = none-other (λ n. formOf (shapeOf n)) (numbersOf formArms) 275 tt (λ n h. rw (above n h))
 
 -- A number in none of all arms has no shape.
 pub shape-other : (n : ℕ) → PastArms (Unit {0}) n (numbersOf (ruleArms ++ formArms)) → shapeOf n ≡ free
@@ -200,3 +210,38 @@ module _ (p : Shape → Bool) (but : List ℕ) (from : ℕ) where
       go : (less : Bool) → ltb n 275 ≡ less → T (p (shapeOf n))
       go true e = passes-in 275 t n out low (ltb-true n 275 e)
       go false e = subst (λ (s : Shape). T (p s)) (sym (above n (ltb-false n 275 e))) f
+
+-- ---- The numbers of items
+
+-- n is none of the numbers in the arms that make items
+module _ (n : ℕ) (p : PastArms (Unit {0}) n itemNumbers) where
+  -- From 257 to 265 it is one of digits.
+  pub digits-behind : 257 ≤ n → n < 266 → formOf (shapeOf n) ≡ 4
+  unfolding shapeOf plainShape gppShape formOf
+  digits-behind low high = eqb→eq _ 4 (passes-in (λ s. eqb (formOf s) 4) (named itemNumbers) 257 266 tt n (past-not-in (Unit {0}) n itemNumbers p) low high)
+
+  -- Any other has no form of its own.
+  pub form-other : (n < 257) ⊎ (266 ≤ n) → formOf (shapeOf n) ≡ 0
+  unfolding shapeOf plainShape gppShape formOf
+  form-other o =
+      let out : isIn n (named itemNumbers) ≡ false = past-not-in (Unit {0}) n itemNumbers p in
+      eqb→eq _ 0
+      (⊎-elim (passes-in (λ s. eqb (formOf s) 0) (named itemNumbers) 0 257 tt n out (omega arith)) (passes-from (λ s. eqb (formOf s) 0) (named itemNumbers) 266 tt tt n out) o)
+
+-- the numbers of digits that have an arm
+pub digits-arm : (n : ℕ) → OneOf (31 ∷ 257 ∷ 274 ∷ []) n → formOf (shapeOf n) ≡ 4
+unfolding shapeOf plainShape gppShape formOf
+digits-arm n = ⊎-elim (λ e. rw e) (⊎-elim (λ e. rw e) (λ e. rw e))
+
+-- A number of digits takes 1 to 15 of them, or 5 or 6.
+pub in-digits : (n : ℕ) → formOf (shapeOf n) ≡ 4 → shapeOf n ≡ digits (cond (eqb n 31 || eqb n 257) 1 5) (cond (eqb n 31 || eqb n 257) 15 6)
+unfolding shapeOf plainShape gppShape formOf codeOf shapeBy
+in-digits n f = go (eqb n 31) (eqb n 257) refl refl
+  where
+    go : (a b : Bool) → eqb n 31 ≡ a → eqb n 257 ≡ b → shapeOf n ≡ digits (cond (a || b) 1 5) (cond (a || b) 15 6)
+    go true b p q = rw (eqb-true n 31 p)
+    go false true p q = rw (eqb-true n 257 q)
+    go false false p q =
+        let t = passes-from (λ s. not (eqb (formOf s) 4) || eqb (codeOf s) 41) (31 ∷ 257 ∷ []) 0 tt tt n (rw (p, q)) (omega arith) in
+        let c : codeOf (shapeOf n) ≡ 41 = eqb→eq _ 41 (rw (eq-eqb (formOf (shapeOf n)) 4 f) at t) in
+        sym (shape-back n) ∙ ap shapeBy c

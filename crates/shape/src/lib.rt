@@ -9,7 +9,7 @@ ghost use Rattle.meaning.specs.Octets.{all, isHex, digitValue};
 ghost use Rattle.meaning.specs.Shapes.{digits, qos, plainShape, gppShape, shapeOf, release};
 ghost use Rattle.meaning.specs.Shapes as meant;
 ghost use Rattle.meaning.specs.Framing.{isPlain};
-ghost use Rattle.meaning.specs.Sheet.{form, storedLength};
+ghost use Rattle.meaning.specs.Sheet.{formOf, form, storedLength};
 ghost use Rattle.shape.specs.Codes.{codeOf, shapeBy};
 ghost use Rattle.shape.specs.Items.{undigited, rawItem, itemFor};
 
@@ -187,8 +187,8 @@ fn meets_code(code: u8, value: &[u8]) -> bool
     }
 }
 
-// Whether a value meets the shape of a carried number. Here and in `item_of` the even and the odd numbers of a shape have an arm each:
-// neighbours in one arm would be tested as a range, behind all the others.
+// Whether a value meets the shape of a carried number. Here and in `item_of`, but for digits there, the even and the odd numbers of a
+// shape have an arm each: neighbours in one arm would be tested as a range, behind all the others.
 pub fn meets(number: u16, value: &[u8]) -> bool
     ensures { λ r. ⌜ r ≡ meant.meets (shapeOf number) (now (value .entry)) ⌝ }
 {
@@ -253,7 +253,7 @@ fn undigited_item(number: u16, form: u8, count: usize, value: Value) -> Item
     ensures { λ r. ⌜ r ≡ undigited number form count value ⌝ }
 {
     let digits = octets::Digits {
-        octets: [0u8; 15],
+        octets: [15u8; 15],
         len: 0,
     };
     Item {
@@ -318,6 +318,22 @@ fn digits_item(number: u16, v: &[u8], value: area::Part, least: usize, most: usi
     }
 }
 
+// The item of a number whose shape is digits: 1 to 15 of a subscriber's number, 5 or 6 of a network's. The making of the digits
+// stands in the code once.
+fn any_digits(number: u16, v: &[u8], value: area::Part) -> Item
+    requires { ⌜ formOf (shapeOf number) ≡ 4 ⌝ }
+    ensures { λ r. ⌜ r ≡ itemFor number (now (v .entry)) value ⌝ }
+{
+    let long = (number == 31) | (number == 257);
+    digits_item(
+        number,
+        v,
+        value,
+        if long { 1 } else { 5 },
+        if long { 15 } else { 6 },
+    )
+}
+
 // The item of a number whose shape is hexadecimal text.
 fn hex_item(number: u16, v: &[u8], value: area::Part) -> Item
     requires { ⌜ shapeOf number ≡ meant.hexadecimal ⌝ }
@@ -365,9 +381,7 @@ pub fn item_of(v: &[u8], number: u16, value: area::Part) -> Item
         7 | 41 | 43 | 45 | 47 | 49 | 61 | 259 => number_item(number, v, value),
         4 | 8 | 260 | 262 => address_item(number, v, value),
         9 | 263 => address_item(number, v, value),
-        31 | 257 => digits_item(number, v, value, 1, 15),
-        264 | 274 => digits_item(number, v, value, 5, 6),
-        265 => digits_item(number, v, value, 5, 6),
+        31 | 257 | 264 | 265 | 274 => any_digits(number, v, value),
         44 => hex_item(number, v, value),
         261 => qos_item(number, v, value),
         266 => octet_item(70, number, v, value),

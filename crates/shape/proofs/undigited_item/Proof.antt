@@ -1,4 +1,4 @@
--- No digits: zeros, and the count 0. Assumes nothing.
+-- No digits: fifteens, and the count 0. Assumes nothing.
 use mathlib.Core.Path.{refl}
 use Rattle.meaning.specs.Answers.{over}
 use Rattle.octets.specs.DigitStrings.{padded, digitsOf}
