@@ -1,39 +1,42 @@
 -- The pass over an area's attributes: what its loop has counted and laid. Assumes nothing.
 use mathlib.Core.Path.{_≡_, refl, sym, ap, subst, _∙_}
 use mathlib.Core.List.{List, [], _++_, append-assoc, append-nil}
+use mathlib.Core.Bool.{Bool, true, false, cond}
 use Prim.Native.Nat.{ℕ, _+_, _-_, _*_, _≤_}
 use native.Mathlib.Omega.{arith}
+use lib.Dec.{eqb}
 use lib.ListN.{length, take, drop, length-append, length-drop}
 use lib.Seq.{length-take-le}
-use Rattle.meaning.specs.Octets.{Octets}
+use Rattle.meaning.specs.Octets.{Octets, numberOf}
 use Rattle.meaning.specs.Framing.{Walk, end, broken, walk, walkAt, attributes}
 use Rattle.meaning.specs.Refusals.{fault}
-use Rattle.meaning.specs.Sheet.{stored, item, itemsOf, storedLength, count}
-use Rattle.meaning.specs.Answers.{over}
+use Rattle.meaning.specs.Sheet.{form, stored, item, itemsOf}
 use Rattle.meaning.proofs.Forms.{stored-le}
 use Rattle.meaning.proofs.Bounds.{count-fits}
-use Rattle.octets.specs.Parts.{partOf, laidAt}
-use Rattle.octets.proofs.Overs.{over-none, laid-behind}
+use Rattle.octets.specs.Parts.{partOf, Begun}
+use Rattle.octets.proofs.Begun.{begun-none, begun-on, begun-first}
 use Rattle.area.specs.declared.Refusal.{Refusal}
 use Rattle.area.specs.declared.Part.{Part}
 use Rattle.area.proofs.Steps.{Stands}
 use Rattle.area.proofs.Passed as framing
 use Rattle.shape.specs.declared.Item.{Item}
-use Rattle.shape.specs.Items.{itemAt, itemFor}
+use Rattle.shape.specs.declared.Value.the-variants.{Number, Address, Digits, Plain}
+use Rattle.shape.specs.Items.{valueBy, itemAt, itemFor}
+use Rattle.shape.proofs.Formed.{formed-as}
 use Rattle.shape.proofs.Items.{item-there}
-use Rattle.shape.proofs.Stored.{announced-as-meant, item-as-meant}
+use Rattle.shape.proofs.Stored.{item-as-meant}
 use Rattle.sheet.specs.declared.Tally.the-variants.{Whole, Broken}
-use Rattle.sheet.specs.Items.{headOf, itemIn, Small, itemsIn, PassSays}
+use Rattle.sheet.specs.Items.{headOf, itemIn, Small, Within, Put, itemsIn, PassSays}
 
--- The loop stands at a place and has gone over the attributes before it, whose items are so many octets and stand over the start of d.
+-- The loop stands at a place and has gone over the attributes before it, whose items are so many octets and stand at the start of the
+-- buffer, which was d.
 pub record Passing (l d out : List ℕ) (place count written : ℕ) : Type 0 where
   pub passed : framing.Passed l count place
   pub gone : List ℕ
   pub whole : itemsIn l ≡ gone ++ itemsOf (attributes (walkAt l place))
   pub long : length gone ≡ written
   pub few : written ≤ 2 * place
-  pub kept : length out ≡ length d
-  pub held : out ≡ over gone d
+  pub held : Begun 0 gone d out
 
 pub passing-none : (l d : List ℕ) → Passing l d d 0 0 0
 unfolding itemsIn walk
@@ -44,14 +47,25 @@ passing-none l d =
       whole = refl;
       long = refl;
       few = omega arith;
-      kept = refl;
-      held = sym (over-none d);
+      held = begun-none 0 d;
     }
 
 -- the item that the meaning has for an attribute is the one that is made of it
 item-meant : (l : List ℕ) (n : ℕ) (p : Part) → Octets l → itemIn l (itemAt l n p) ≡ item n (partOf l (p .start) (p .len))
 unfolding itemIn headOf
 item-meant l n p o = item-as-meant l n p o
+
+-- plain octets of an item are the part that it was made of
+plain-part : (f : ℕ) (v s : List ℕ) (p q : Part) → valueBy f v s p ≡ Plain q → p ≡ q
+unfolding valueBy
+plain-part f v s p q e = go (eqb f 2) (eqb f 3) (eqb f 4) (eqb f 7) e
+  where
+    go : (a b c d : Bool) → cond a (Number (numberOf v)) (cond b (Address (numberOf v)) (cond c Digits (cond d (Number (numberOf s)) (Plain p)))) ≡ Plain q → p ≡ q
+    go true b c d h = absurd (let z : _≡_ {A = ℕ} 0 1 = cc in omega arith)
+    go false true c d h = absurd (let z : _≡_ {A = ℕ} 0 1 = cc in omega arith)
+    go false false true d h = absurd (let z : _≡_ {A = ℕ} 0 1 = cc in omega arith)
+    go false false false true h = absurd (let z : _≡_ {A = ℕ} 0 1 = cc in omega arith)
+    go false false false false h = cc
 
 -- the value of an attribute
 abbrev valueIn : List ℕ → Part → List ℕ
@@ -87,6 +101,17 @@ module _ (l : List ℕ) (place n : ℕ) (p : Part) (behind : ℕ) (g : Stands l 
       let c = g .carried o in
       subst Small (sym (item-made i e)) (record { number-low = c .low; count-low = count-fits _ c })
 
+  -- its plain octets lie in the area
+  pub item-within : (i : Item) → i ≡ itemFor n (take (behind - p .start) (drop (p .start) l)) p → Within l i
+  unfolding itemAt itemFor
+  item-within i e =
+      let v : List ℕ = valueIn l p in
+      subst (Within l) (sym (item-made i e))
+      (record {
+        inside = λ q h. omega (arith, ap (λ (r : Part). r .start + r .len) (plain-part (form n v) v (stored n v) p q h), g .ends, g .inside);
+        released = λ q h six. omega (arith, ap (λ (r : Part). r .len) (plain-part (form n v) v (stored n v) p q h), value-long, formed-as n v 6 six .long);
+      })
+
   -- the item of the attribute
   module _ (i : Item) (made : i ≡ itemFor n (take (behind - p .start) (drop (p .start) l)) p) where
     octets-are : itemIn l i ≡ item n (valueIn l p)
@@ -96,40 +121,34 @@ module _ (l : List ℕ) (place n : ℕ) (p : Part) (behind : ℕ) (g : Stands l 
       item-inside : written + length (itemIn l i) ≤ 2 * behind
       item-inside = omega (arith, ap length octets-are, item-bound, k .few)
 
-      -- there is room for the item
-      pub item-fits : 2 * length l ≤ length d → written + length (itemIn l i) ≤ length out
-      item-fits room = omega (arith, item-inside, k .kept, g .inside)
+      -- there is room for the item and eight octets more
+      pub item-fits : 2 * length l + 8 ≤ length d → written + length (itemIn l i) + 8 ≤ length out
+      item-fits room = omega (arith, item-inside, k .held .kept, g .inside)
 
-      -- with the octets that it announces
-      module _ (size : ℕ) (announces : size ≡ storedLength (i .form) (i .count)) where
-        octets-long : length (itemIn l i) ≡ 4 + size
-        octets-long =
-            ap length octets-are ∙ item-size
-            ∙ ap (λ (m : ℕ). 4 + m) (sym (announces ∙ ap (λ (j : Item). storedLength (j .form) (j .count)) (item-made i made) ∙ announced-as-meant l n p))
-
-        -- the sums do not wrap
-        pub passing-sum : written + (4 + size) ≤ 2 * length l
-        passing-sum = omega (arith, octets-long, item-inside, g .inside)
+      -- it was put behind the items before it
+      module _ (size : ℕ) (after : List ℕ) (w : Put written (itemIn l i) out size after) where
+        -- the sum does not wrap
+        pub passing-sum : written + size ≤ 2 * length l
+        passing-sum = omega (arith, w .says, item-inside, g .inside)
 
         -- one attribute more
-        pub passing-more : 2 * length l ≤ length d → (after : List ℕ) → length after ≡ length out → after ≡ laidAt written (itemIn l i) out → Passing l d after behind (count + 1) (written + (4 + size))
-        passing-more room after len h =
+        pub passing-more : Passing l d after behind (count + 1) (written + size)
+        passing-more =
             record {
               passed = framing.passed-more l count place (k .passed) n p behind g;
               gone = k .gone ++ itemIn l i;
               whole =
                   k .whole ∙ ap (λ (s : List ℕ). k .gone ++ s) (walks-on ∙ ap (λ (s : List ℕ). s ++ itemsOf (attributes (walkAt l behind))) (sym octets-are))
                   ∙ sym (append-assoc (k .gone) (itemIn l i) (itemsOf (attributes (walkAt l behind))));
-              long = omega (arith, length-append (k .gone) (itemIn l i), k .long, octets-long);
-              few = omega (arith, octets-long, item-inside);
-              kept = len ∙ k .kept;
-              held = h ∙ laid-behind (k .gone) (itemIn l i) d out written (k .long) (k .held) (omega (arith, item-fits room, k .kept));
+              long = omega (arith, length-append (k .gone) (itemIn l i), k .long, w .says);
+              few = omega (arith, w .says, item-inside);
+              held = begun-on 0 written (k .gone) (itemIn l i) d out after (omega (arith, k .long)) (k .held) (w .holds);
             }
 
 -- The loop is left.
 module _ (l d out : List ℕ) (place count written : ℕ) (k : Passing l d out place count written) where
   -- none is left
-  pub passing-done : walkAt l place ≡ end → PassSays l d (Whole count written) out
+  pub passing-done : walkAt l place ≡ end → PassSays l (Whole count written) out
   unfolding PassSays itemsOf attributes fault
   passing-done h =
       let all : itemsIn l ≡ k .gone = k .whole ∙ ap (λ (w : Walk). k .gone ++ itemsOf (attributes w)) h ∙ append-nil (k .gone) in
@@ -138,10 +157,10 @@ module _ (l d out : List ℕ) (place count written : ℕ) (k : Passing l d out p
         counts = omega (arith, k .passed .counted, ap (λ (w : Walk). length (attributes w)) h);
         long = sym (ap length all ∙ k .long);
         few = omega (arith, k .few, k .passed .inside);
-        holds = k .held ∙ ap (λ (s : List ℕ). over s d) (sym all);
+        holds = begun-first written (k .gone) d out (k .long) (k .held) ∙ sym all;
       }
 
   -- a refusal
-  pub passing-broken : (refused : Refusal) → walkAt l place ≡ broken (refused .number) (refused .second) → PassSays l d (Broken refused) out
+  pub passing-broken : (refused : Refusal) → walkAt l place ≡ broken (refused .number) (refused .second) → PassSays l (Broken refused) out
   unfolding PassSays fault
   passing-broken refused h = k .passed .same-fault ∙ ap fault h

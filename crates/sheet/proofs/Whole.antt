@@ -13,7 +13,7 @@ use Rattle.meaning.specs.Answers.{over, after, readAnswer}
 use Rattle.meaning.proofs.Sheets.{clear}
 use Rattle.meaning.proofs.Bounds.{sheet-bound, items-fit, kind-octet, flags-octet}
 use Rattle.octets.specs.Parts.{laidAt}
-use Rattle.octets.proofs.Overs.{over-front, laid-first, laid-behind}
+use Rattle.octets.proofs.Overs.{laid-first, laid-behind}
 use Rattle.area.specs.declared.Refusal.{Refusal}
 use Rattle.area.specs.declared.Arrival.the-variants.{Fit}
 use Rattle.area.specs.Answers.{inBook, arrivalOf}
@@ -105,7 +105,7 @@ pub arrived-short : (kind flags : ℕ) (area : List ℕ) → arrivalOf kind flag
 arrived-short kind flags area fit = fit-arrived kind flags area (arrivalOf kind flags (length area)) refl fit .short
 
 -- Nothing of 1 to 3 applies.
-module _ (kind flags : ℕ) (area : List ℕ) (fit : arrivalOf kind flags (length area) ≡ Fit) (blank : List ℕ) (r : Tally) (made : List ℕ) (says : PassSays area blank r made) where
+module _ (kind flags : ℕ) (area : List ℕ) (fit : arrivalOf kind flags (length area) ≡ Fit) (r : Tally) (made : List ℕ) (says : PassSays area r made) where
   left : areaRefusal kind flags area ≡ fault (walk area)
   left = fit-arrived kind flags area (arrivalOf kind flags (length area)) refl fit .left
 
@@ -113,12 +113,12 @@ module _ (kind flags : ℕ) (area : List ℕ) (fit : arrivalOf kind flags (lengt
   pub framing-refused : (refused : Refusal) (d : List ℕ) → r ≡ Broken refused → Read kind flags area d (Refused refused) d
   unfolding PassSays
   framing-refused refused d q =
-      refused-read kind flags area refused d (left ∙ subst (λ (t : Tally). PassSays area blank t made) q says)
+      refused-read kind flags area refused d (left ∙ subst (λ (t : Tally). PassSays area t made) q says)
 
   module _ (count written : ℕ) (q : r ≡ Whole count written) where
-    whole : Passed area blank count written made
+    whole : Passed area count written made
     unfolding PassSays
-    whole = subst (λ (t : Tally). PassSays area blank t made) q says
+    whole = subst (λ (t : Tally). PassSays area t made) q says
 
     -- the items are laid
     pub items-ready : Ready kind flags area count written made
@@ -127,7 +127,7 @@ module _ (kind flags : ℕ) (area : List ℕ) (fit : arrivalOf kind flags (lengt
           accepted = left ∙ whole .sound;
           counts = whole .counts;
           long = whole .long;
-          laid = rw (whole .long, whole .holds) (over-front (itemsIn area) blank);
+          laid = whole .holds;
         }
 
     pub items-few : written ≤ 2 * length area

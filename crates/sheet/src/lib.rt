@@ -17,7 +17,7 @@ ghost use Rattle.octets.specs.DigitStrings.{halves};
 ghost use Rattle.area.specs.Answers.{arrivalOf};
 ghost use Rattle.area.specs.declared.Arrival.the-variants.{Fit};
 ghost use Rattle.shape.specs.Items.{storedPart, storedIn};
-ghost use Rattle.sheet.specs.Items.{headOf, itemIn, Small, sheetHead, PassSays};
+ghost use Rattle.sheet.specs.Items.{headOf, itemIn, Small, Within, Put, sheetHead, PassSays};
 ghost use Rattle.sheet.specs.Answers.{Read};
 
 // What reading answers: the octets of the sheet that stands at the buffer's start, or a refusal.
@@ -52,69 +52,85 @@ fn put_four(buf: &mut [u8], at: usize, four: [u8; 4])
     buf[at + 3] = four[3];
 }
 
-// Lays a number: one octet in form 7, else four.
-fn put_number(buf: &mut [u8], at: usize, form: u8, n: u32)
-    requires { ⌜ at + length (cond (eqb form 7) ((n % 256) ∷ []) (octetsOf 4 n)) ≤ length (now buf) ⌝ }
-    ensures { λ _. ⌜ now (buf .exit) ≡ laidAt at (cond (eqb form 7) ((n % 256) ∷ []) (octetsOf 4 n)) (now (buf .entry)) ⌝ }
+// Lays eight octets, which have room there.
+fn put_eight(buf: &mut [u8], at: usize, eight: [u8; 8])
+    requires { ⌜ at + 8 ≤ length (now buf) ⌝ }
+    ensures { λ _. ⌜ now (buf .exit) ≡ laidAt at eight (now (buf .entry)) ⌝ }
+{
+    buf[at] = eight[0];
+    buf[at + 1] = eight[1];
+    buf[at + 2] = eight[2];
+    buf[at + 3] = eight[3];
+    buf[at + 4] = eight[4];
+    buf[at + 5] = eight[5];
+    buf[at + 6] = eight[6];
+    buf[at + 7] = eight[7];
+}
+
+// Lays a number: one octet in form 7, else four. The answer of this writer and of those below is how many octets they lay.
+fn put_number(buf: &mut [u8], at: usize, form: u8, n: u32) -> usize
+    requires { ⌜ at + 4 ≤ length (now buf) ⌝ }
+    ensures { λ r. ⌜ Put at (cond (eqb form 7) ((n % 256) ∷ []) (octetsOf 4 n)) (now (buf .entry)) r (now (buf .exit)) ⌝ }
 {
     if form == 7 {
-        let one = [(n % 256) as u8];
-        octets::copy_at(buf, at, &one);
-        return;
+        buf[at] = (n % 256) as u8;
+        return 1;
     }
     put_four(buf, at, octets::u32_octets(n));
+    4
 }
 
 // Lays a QoS profile: the release octet, then its hexadecimal digits two to an octet.
-fn put_qos(buf: &mut [u8], at: usize, text: &[u8])
-    requires { ⌜ at + (1 + packedLength (length (now text) - 3)) ≤ length (now buf) ⌝ }
-    ensures { λ _. ⌜ now (buf .exit) ≡ laidAt at (((digitValue (getD (now (text .entry)) 0 0) * 10 + digitValue (getD (now (text .entry)) 1 0)) % 256) ∷ pack (halves (drop 3 (now (text .entry))))) (now (buf .entry)) ⌝ }
+fn put_qos(buf: &mut [u8], at: usize, text: &[u8]) -> usize
+    requires { ⌜ (3 ≤ length (now text)) × (at + (1 + packedLength (length (now text) - 3)) ≤ length (now buf)) ⌝ }
+    ensures { λ r. ⌜ Put at (((digitValue (getD (now (text .entry)) 0 0) * 10 + digitValue (getD (now (text .entry)) 1 0)) % 256) ∷ pack (halves (drop 3 (now (text .entry))))) (now (buf .entry)) r (now (buf .exit)) ⌝ }
 {
     let release = [release_of(text)];
     octets::copy_at(buf, at, &release);
     octets::pack_at(buf, at + 1, octets::part(text, 3, text.len()));
+    1 + octets::packed_len(text.len() - 3)
 }
 
 // Lays plain octets: as they stand, in form 5 as packed text, in form 6 as a QoS profile.
-fn put_part(buf: &mut [u8], at: usize, form: u8, v: &[u8])
-    requires { ⌜ at + length (storedPart form (now v)) ≤ length (now buf) ⌝ }
-    ensures { λ _. ⌜ now (buf .exit) ≡ laidAt at (storedPart form (now (v .entry))) (now (buf .entry)) ⌝ }
+fn put_part(buf: &mut [u8], at: usize, form: u8, v: &[u8]) -> usize
+    requires { ⌜ (form ≡ 6 → 3 ≤ length (now v)) × (at + length (storedPart form (now v)) ≤ length (now buf)) ⌝ }
+    ensures { λ r. ⌜ Put at (storedPart form (now (v .entry))) (now (buf .entry)) r (now (buf .exit)) ⌝ }
 {
     if form == 5 {
         octets::pack_at(buf, at, v);
-        return;
+        return octets::packed_len(v.len());
     }
     if form == 6 {
-        put_qos(buf, at, v);
-        return;
+        return put_qos(buf, at, v);
     }
     octets::copy_at(buf, at, v);
+    v.len()
 }
 
-// Lays what an item stores.
-fn put_stored(buf: &mut [u8], at: usize, area: &[u8], item: Item)
-    requires { ⌜ at + length (storedIn (now area) item) ≤ length (now buf) ⌝ }
-    ensures { λ _. ⌜ now (buf .exit) ≡ laidAt at (storedIn (now (area .entry)) item) (now (buf .entry)) ⌝ }
+// Lays what an item stores, with eight octets of room behind it, which may change.
+fn put_stored(buf: &mut [u8], at: usize, area: &[u8], item: Item) -> usize
+    requires { ⌜ Within (now area) item × (at + length (storedIn (now area) item) + 8 ≤ length (now buf)) ⌝ }
+    ensures { λ r. ⌜ Put at (storedIn (now (area .entry)) item) (now (buf .entry)) r (now (buf .exit)) ⌝ }
 {
     let value = item.value;
     let form = item.form;
     match value {
         Value::Number(n) => {
-            put_number(buf, at, form, n);
-            return;
+            return put_number(buf, at, form, n);
         }
         Value::Address(n) => {
             put_four(buf, at, octets::u32_octets(n));
-            return;
+            return 4;
         }
         Value::Digits => {
             let digits = item.digits;
-            octets::digits_at(buf, at, digits);
-            return;
+            put_eight(buf, at, octets::packed(digits));
+            return octets::packed_len(octets::least(digits.len, 15));
         }
         Value::Plain(p) => {
-            put_part(buf, at, form, octets::part(area, p.start, p.len));
-            return;
+            let start = p.start;
+            let end = start + p.len;
+            return put_part(buf, at, form, &area[start..end]);
         }
     }
 }
@@ -134,20 +150,21 @@ fn put_head(buf: &mut [u8], at: usize, item: Item)
     put_four(buf, at, [26, (n - 256) as u8, form, count]);
 }
 
-// Lays an item, its stored octets and the head before them.
-fn put_item(buf: &mut [u8], at: usize, area: &[u8], item: Item)
-    requires { ⌜ Small item × (at + length (itemIn (now area) item) ≤ length (now buf)) ⌝ }
-    ensures { λ _. ⌜ now (buf .exit) ≡ laidAt at (itemIn (now (area .entry)) item) (now (buf .entry)) ⌝ }
+// Lays an item, its stored octets and the head before them, with the same room behind them.
+fn put_item(buf: &mut [u8], at: usize, area: &[u8], item: Item) -> usize
+    requires { ⌜ Small item × Within (now area) item × (at + length (itemIn (now area) item) + 8 ≤ length (now buf)) ⌝ }
+    ensures { λ r. ⌜ Put at (itemIn (now (area .entry)) item) (now (buf .entry)) r (now (buf .exit)) ⌝ }
 {
-    put_stored(buf, at + 4, area, item);
+    let size = put_stored(buf, at + 4, area, item);
     put_head(buf, at, item);
+    4 + size
 }
 
-// Lays the items of an area over the buffer's start, one behind the other, and counts them; or gives the first refusal of the framing.
-// "A sheet is never longer than 9 + 2 x area length": the buffer has room for the items of any area so long.
+// Lays the items of an area at the buffer's start, one behind the other, and counts them; or gives the first refusal of the framing.
+// "A sheet is never longer than 9 + 2 x area length": the buffer has room for the items of any area so long, and for eight octets more.
 fn put_items(area: &[u8], buf: &mut [u8]) -> Tally
-    requires { ⌜ 2 * length (now area) ≤ length (now buf) ⌝ }
-    ensures { λ r. ⌜ PassSays (now (area .entry)) (now (buf .entry)) r (now (buf .exit)) ⌝ }
+    requires { ⌜ 2 * length (now area) + 8 ≤ length (now buf) ⌝ }
+    ensures { λ r. ⌜ PassSays (now (area .entry)) r (now (buf .exit)) ⌝ }
 {
     let mut place: usize = 0;
     let mut count: usize = 0;
@@ -161,8 +178,7 @@ fn put_items(area: &[u8], buf: &mut [u8]) -> Tally
             } => {
                 let start = value.start;
                 let item = shape::item_of(&area[start..next], number, value);
-                put_item(buf, written, area, item);
-                written += 4 + shape::stored_len(item.form, item.count);
+                written += put_item(buf, written, area, item);
                 place = next;
                 count += 1;
             }
@@ -198,7 +214,7 @@ fn sheet_head(kind: u32, flags: u32, count: usize) -> [u8; 9]
 // The sheet of an area that comes with a fit kind, flags and length, at the start of `sheet`, or the first of refusals 4 to 9. Its items
 // are laid into `buf` and copied from there, so that nothing is written before every refusal is ruled out.
 fn lay(area: &[u8], kind: u32, flags: u32, buf: &mut [u8], sheet: &mut [u8]) -> Reading
-    requires { ⌜ (arrivalOf kind flags (length (now area)) ≡ Fit) × (2 * length (now area) ≤ length (now buf)) ⌝ }
+    requires { ⌜ (arrivalOf kind flags (length (now area)) ≡ Fit) × (2 * length (now area) + 8 ≤ length (now buf)) ⌝ }
     ensures { λ r. ⌜ Read kind flags (now (area .entry)) (now (sheet .entry)) r (now (sheet .exit)) ⌝ }
 {
     match put_items(area, buf) {
@@ -221,16 +237,16 @@ fn lay(area: &[u8], kind: u32, flags: u32, buf: &mut [u8], sheet: &mut [u8]) -> 
     }
 }
 
-// The same, with a buffer for the items: a short one for an area of up to 512 octets, since it takes less time to clear.
+// The same, with a buffer for the items: a short one for an area of up to 384 octets, since it takes less time to clear.
 fn sheet_of(area: &[u8], kind: u32, flags: u32, sheet: &mut [u8]) -> Reading
     requires { ⌜ arrivalOf kind flags (length (now area)) ≡ Fit ⌝ }
     ensures { λ r. ⌜ Read kind flags (now (area .entry)) (now (sheet .entry)) r (now (sheet .exit)) ⌝ }
 {
-    if area.len() <= 512 {
-        let mut short = [0u8; 1024];
+    if area.len() <= 384 {
+        let mut short = [0u8; 776];
         return lay(area, kind, flags, &mut short, sheet);
     }
-    let mut long = [0u8; 8152];
+    let mut long = [0u8; 8160];
     lay(area, kind, flags, &mut long, sheet)
 }
 

@@ -18,7 +18,7 @@ same-length : tie.Need-same-length
 same-length c = search needs
 
 returns : tie.Need-returns
-returns c = framing-refused _ _ _ (c .before .before .before .before .before .before .before .before .before .before .pre .0) _ _ _ (c .before .before .before .before .before .put-items .ensures) _ _ (c .before .refusal .given .1)
+returns c = framing-refused _ _ _ (c .before .before .before .before .before .before .before .before .before .before .pre .0) _ _ (c .before .before .before .before .before .put-items .ensures) _ _ (c .before .refusal .given .1)
 
 enum-known-count : tie.Need-enum-known-count
 enum-known-count c = search needs
@@ -26,7 +26,7 @@ enum-known-count c = search needs
 add-needed : tie.Need-add-needed
 add-needed c =
     let k = c in
-    let y = items-ready _ _ _ (k .before .before .before .before .before .before .before .before .before .before .pre .0) _ _ _ (k .before .before .before .before .before .put-items .ensures) _ _ (k .before .count .given .1) in
+    let y = items-ready _ _ _ (k .before .before .before .before .before .before .before .before .before .before .pre .0) _ _ (k .before .before .before .before .before .put-items .ensures) _ _ (k .before .count .given .1) in
     omega (arith, bounded _ _ _ _ _ _ y (slice-octets (k .before .before .before .before .before .before .before .before .before .before .args .area .now) (k .before .before .before .before .before .before .before .before .before .shared-slice-known .given)) .small)
 
 same-length-2 : tie.Need-same-length-2
@@ -35,13 +35,13 @@ same-length-2 c = search needs
 returns-2 : tie.Need-returns-2
 returns-2 c =
     let k = c .before in
-    let y = items-ready _ _ _ (k .before .before .before .before .before .before .before .before .before .before .pre .0) _ _ _ (k .before .before .before .before .before .put-items .ensures) _ _ (k .before .count .given .1) in
+    let y = items-ready _ _ _ (k .before .before .before .before .before .before .before .before .before .before .pre .0) _ _ (k .before .before .before .before .before .put-items .ensures) _ _ (k .before .count .given .1) in
     too-long _ _ _ _ _ _ y _ (c .if1 .taken)
 
 sheet-head-requires : tie.Need-sheet-head-requires
 sheet-head-requires c κs =
     let k = c .before in
-    let y = items-ready _ _ _ (k .before .before .before .before .before .before .before .before .before .before .pre .0) _ _ _ (k .before .before .before .before .before .put-items .ensures) _ _ (k .before .count .given .1) in
+    let y = items-ready _ _ _ (k .before .before .before .before .before .before .before .before .before .before .pre .0) _ _ (k .before .before .before .before .before .put-items .ensures) _ _ (k .before .count .given .1) in
     let s = bounded _ _ _ _ _ _ y (slice-octets (k .before .before .before .before .before .before .before .before .before .before .args .area .now) (k .before .before .before .before .before .before .before .before .before .shared-slice-known .given)) in
     (s .kind-low, s .flags-low, s .few)
 
@@ -54,12 +54,12 @@ copy-at-requires c κs = search needs
 slice-reshare-prefix-copy-at : tie.Need-slice-reshare-prefix-copy-at
 slice-reshare-prefix-copy-at c =
     let k = c .before .before .before .before .before .before .before .before in
-    omega (arith, items-few _ _ _ (k .before .before .before .before .before .before .before .before .before .before .pre .0) _ _ _ (k .before .before .before .before .before .put-items .ensures) _ _ (k .before .count .given .1), k .before .before .before .before .before .put-items .kept .1 .0, k .before .before .before .before .before .before .before .before .before .before .pre .1)
+    omega (arith, items-few _ _ _ (k .before .before .before .before .before .before .before .before .before .before .pre .0) _ _ (k .before .before .before .before .before .put-items .ensures) _ _ (k .before .count .given .1), k .before .before .before .before .before .put-items .kept .1 .0, k .before .before .before .before .before .before .before .before .before .before .pre .1)
 
 slice-aggregate-copy-at-2 : tie.Need-slice-aggregate-copy-at-2
 slice-aggregate-copy-at-2 c =
     let k = c .before .before .before .before .before .before .before .before .before in
-    sym (length-take-le _ _ (omega (arith, items-few _ _ _ (k .before .before .before .before .before .before .before .before .before .before .pre .0) _ _ _ (k .before .before .before .before .before .put-items .ensures) _ _ (k .before .count .given .1), k .before .before .before .before .before .put-items .kept .1 .0, k .before .before .before .before .before .before .before .before .before .before .pre .1)))
+    sym (length-take-le _ _ (omega (arith, items-few _ _ _ (k .before .before .before .before .before .before .before .before .before .before .pre .0) _ _ (k .before .before .before .before .before .put-items .ensures) _ _ (k .before .count .given .1), k .before .before .before .before .before .put-items .kept .1 .0, k .before .before .before .before .before .before .before .before .before .before .pre .1)))
 
 copy-at-requires-2 : tie.Need-copy-at-requires-2
 copy-at-requires-2 c κs = search needs
@@ -73,7 +73,7 @@ same-length-4 c = search needs
 returns-3 : tie.Need-returns-3
 returns-3 c =
     let k = c .before .before .before .before .before .before .before .before .before .before .before .before in
-    let y = items-ready _ _ _ (k .before .before .before .before .before .before .before .before .before .before .pre .0) _ _ _ (k .before .before .before .before .before .put-items .ensures) _ _ (k .before .count .given .1) in
+    let y = items-ready _ _ _ (k .before .before .before .before .before .before .before .before .before .before .pre .0) _ _ (k .before .before .before .before .before .put-items .ensures) _ _ (k .before .count .given .1) in
     sheet-copied _ _ _ _ _ _ y _ _ (c .before .before .before .before .before .before .before .before .before .before .before .if1 .left)
     (rw (c .before .before .before .before .before .before .before .before .before .before .sheet-head .ensures) at (c .before .before .before .before .before .before .before .copy-at .ensures .holds))
     _ (c .before .before .copy-at2 .ensures .holds)

@@ -6,7 +6,7 @@ use lib.ListN.{length}
 use native.Mathlib.Omega.{arith}
 use Rattle.area.proofs.Steps.{Stands, slice-octets, step-attribute, step-refused, step-ended}
 use Rattle.meaning.specs.Octets.{Octets}
-use Rattle.sheet.proofs.Passes.{Passing, passing-none, passing-sum, passing-more, passing-done, passing-broken, item-small, item-fits}
+use Rattle.sheet.proofs.Passes.{Passing, passing-none, passing-sum, passing-more, passing-done, passing-broken, item-small, item-within, item-fits}
 use Rattle.sheet.proofs.put_items.Statement.{statement}
 use Rattle.sheet.proofs.put_items.Tie as tie
 
@@ -51,44 +51,36 @@ put-item-requires : tie.Need-put-item-requires Inv-loop μ-loop
 put-item-requires c κs =
     let k = c .before .before .before in
     let i = k .before .before .before .before .loop .inv in
-    (item-small _ _ _ _ _ (stands k) (octets k) _ (c .before .item-of .ensures), item-fits _ _ _ _ _ (stands k) (octets k) _ (c .before .item-of .ensures) _ _ _ _ i (k .before .before .before .before .before .before .before .pre))
-
-stored-len-requires : tie.Need-stored-len-requires Inv-loop μ-loop
-stored-len-requires c κs = search needs
+    let e = c .before .item-of .ensures in
+    (item-small _ _ _ _ _ (stands k) (octets k) _ e, item-within _ _ _ _ _ (stands k) (octets k) _ e, item-fits _ _ _ _ _ (stands k) (octets k) _ e _ _ _ _ i (k .before .before .before .before .before .before .before .pre))
 
 add-written : tie.Need-add-written Inv-loop μ-loop
 add-written c =
-    let k = c .before .before .before .before .before .before .before in
+    let k = c .before .before .before .before .before .before in
     let z = k .before .before .before .before .before .before .before .good in
-    omega (arith, passing-sum _ _ _ _ _ (stands k) (octets k) _ (c .before .before .before .before .before .item-of .ensures) _ _ _ _ (k .before .before .before .before .loop .inv) _ (c .stored-len .ensures))
-
-add-written-2 : tie.Need-add-written-2 Inv-loop μ-loop
-add-written-2 c =
-    let k = c .before .before .before .before .before .before .before in
-    let z = k .before .before .before .before .before .before .before .good in
-    omega (arith, passing-sum _ _ _ _ _ (stands k) (octets k) _ (c .before .before .before .before .before .item-of .ensures) _ _ _ _ (k .before .before .before .before .loop .inv) _ (c .stored-len .ensures))
+    omega (arith, passing-sum _ _ _ _ _ (stands k) (octets k) _ (c .before .before .before .before .item-of .ensures) _ _ _ _ (k .before .before .before .before .loop .inv) _ _ (c .before .before .put-item .ensures))
 
 add-count : tie.Need-add-count Inv-loop μ-loop
 add-count c =
-    let k = c .before .before .before .before .before .before .before in
+    let k = c .before .before .before .before .before .before in
     let p = k .before .before .before .before .loop .inv .passed in
     omega (arith, p .few, stands k .onwards, stands k .inside)
 
 loop-less : tie.Need-loop-less Inv-loop μ-loop
 loop-less c =
-    let k = c .before .before .before .before .before .before .before in
+    let k = c .before .before .before .before .before .before in
     omega (arith, stands k .onwards, stands k .inside)
 
 loop-again : tie.Need-loop-again Inv-loop μ-loop
 loop-again c =
-    let k = c .before .before .before .before .before .before .before in
-    passing-more _ _ _ _ _ (stands k) (octets k) _ (c .before .before .before .before .before .item-of .ensures) _ _ _ _ (k .before .before .before .before .loop .inv) _ (c .stored-len .ensures) (k .before .before .before .before .before .before .before .pre) _ (c .before .before .before .put-item .kept .0) (c .before .before .before .put-item .ensures)
+    let k = c .before .before .before .before .before .before in
+    passing-more _ _ _ _ _ (stands k) (octets k) _ (c .before .before .before .before .item-of .ensures) _ _ _ _ (k .before .before .before .before .loop .inv) _ _ (c .before .before .put-item .ensures)
 
 enum-known-refusal : tie.Need-enum-known-refusal Inv-loop μ-loop
 enum-known-refusal c = search needs
 
 same-length : tie.Need-same-length Inv-loop μ-loop
-same-length c = c .before .before .before .before .loop .inv .kept
+same-length c = c .before .before .before .before .loop .inv .held .kept
 
 returns : tie.Need-returns Inv-loop μ-loop
 returns c =
@@ -99,7 +91,7 @@ enum-told : tie.Need-enum-told Inv-loop μ-loop
 enum-told c = search needs
 
 same-length-2 : tie.Need-same-length-2 Inv-loop μ-loop
-same-length-2 c = c .before .before .before .loop .inv .kept
+same-length-2 c = c .before .before .before .loop .inv .held .kept
 
 returns-2 : tie.Need-returns-2 Inv-loop μ-loop
 returns-2 c =
@@ -120,9 +112,7 @@ put-items-spec =
     part-item-of-end
     item-of-requires
     put-item-requires
-    stored-len-requires
     add-written
-    add-written-2
     add-count
     loop-less
     loop-again

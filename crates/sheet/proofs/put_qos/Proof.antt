@@ -1,6 +1,6 @@
 -- `sheet::put_qos` meets its contract. Assumes nothing.
 use borrow.Author.Needs.{needs}
-use Rattle.sheet.proofs.Laying.{qos-laid}
+use Rattle.sheet.proofs.Laying.{qos-put}
 use Rattle.sheet.proofs.put_qos.Statement.{statement}
 use Rattle.sheet.proofs.put_qos.Tie as tie
 
@@ -22,11 +22,20 @@ part-requires c κs = search needs
 pack-at-requires : tie.Need-pack-at-requires
 pack-at-requires c κs = search needs
 
+sub-packed-len : tie.Need-sub-packed-len
+sub-packed-len c = search needs
+
+packed-len-requires : tie.Need-packed-len-requires
+packed-len-requires c κs = search needs
+
+add-result : tie.Need-add-result
+add-result c = search needs
+
 same-length : tie.Need-same-length
 same-length c = search needs
 
 returns : tie.Need-returns
-returns c = qos-laid _ _ _ _ _ _ _ (c .before .before .before .before .before .before .before .before .before .before .release-of .ensures) (c .before .before .before .part .ensures) (c .before .before .before .before .before .before .before .before .before .before .before .before .before .pre) (c .before .before .before .before .before .before .before .copy-at .ensures .holds) (c .before .before .pack-at .ensures .holds)
+returns c = qos-put _ _ _ _ _ _ _ _ (c .before .before .before .before .before .before .before .before .before .before .before .release-of .ensures) (c .before .before .before .before .part .ensures) (c .packed-len .ensures) (c .before .before .before .before .before .before .before .before .before .before .before .before .before .before .pre .1) (c .before .before .before .before .before .before .before .before .copy-at .ensures .holds) (c .before .before .before .pack-at .ensures .holds)
 
 pub put-qos-spec : {M : Type 1} → statement M
 put-qos-spec =
@@ -38,5 +47,8 @@ put-qos-spec =
     add-pack-at
     part-requires
     pack-at-requires
+    sub-packed-len
+    packed-len-requires
+    add-result
     same-length
     returns)
