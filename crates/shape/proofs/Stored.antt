@@ -1,5 +1,4 @@
--- An item of the code is the item that document 01 writes: what it stores, how many octets that are, and its whole octets.
--- Assumes nothing.
+-- An item of the code is the item that document 01 writes: what it stores, and its whole octets. Assumes nothing.
 use mathlib.Core.Path.{_≡_, refl, sym, ap, ap₂, _∙_}
 use mathlib.Core.List.{List, [], _∷_}
 use Prim.Native.Nat.{ℕ, zero, suc, _+_, _*_, _%_, _<_}
@@ -8,9 +7,9 @@ use native.Mathlib.Omega.{arith}
 use lib.ListN.{length, drop, getD}
 use Rattle.meaning.specs.Octets.{Octets, numberOf, octetsOf, digitValue, values, pack}
 use Rattle.meaning.specs.Shapes.{shapeOf}
-use Rattle.meaning.specs.Sheet.{typeOf, subOf, form, count, stored, item, storedLength}
+use Rattle.meaning.specs.Sheet.{typeOf, subOf, form, count, stored, item}
 use Rattle.meaning.proofs.Numbers.{octets-back}
-use Rattle.meaning.proofs.Forms.{announced, stored-octets, form-range}
+use Rattle.meaning.proofs.Forms.{stored-octets, form-range}
 use Rattle.octets.specs.Parts.{partOf}
 use Rattle.octets.specs.DigitStrings.{halves, digitsOf, gotOf, packedOf}
 use Rattle.octets.proofs.Parts.{part-octets}
@@ -78,11 +77,6 @@ stored-as-meant area n p o =
     let v : List ℕ = partOf area (p .start) (p .len) in
     let ov : Octets v = part-octets area (p .start) (p .len) o in
     form-stored area v (stored n v) p (codeOf (shapeOf n)) refl ov (stored-octets n v ov) (form n v) (form-range n v) (formed n v)
-
--- An item announces as many octets as are stored of the value.
-pub announced-as-meant : (area : List ℕ) (number : ℕ) (value : Part) → storedLength (itemAt area number value .form) (itemAt area number value .count) ≡ length (stored number (partOf area (value .start) (value .len)))
-unfolding itemAt itemFor
-announced-as-meant area n p = announced n (partOf area (p .start) (p .len))
 
 -- The octets of an item are those of the sheet's item of the value.
 pub item-as-meant : (area : List ℕ) (number : ℕ) (value : Part) → Octets area → typeOf (itemAt area number value .number) ∷ subOf (itemAt area number value .number) ∷ itemAt area number value .form ∷ itemAt area number value .count ∷ storedIn area (itemAt area number value) ≡ item number (partOf area (value .start) (value .len))
