@@ -1,9 +1,6 @@
 /* Read, check and write as document 01 sets them out, written by hand for speed. Each job is
  * one pass over its input: the answer is made in a buffer on the stack, which is great enough
- * for any, and goes to the caller's buffer only once nothing can be refused any more.
- *
- * With LIMITS defined the same is written within what binds the proved code, so that one can
- * see what the proofs cost and what the language does: limits.h says what changes. */
+ * for any, and goes to the caller's buffer only once nothing can be refused any more. */
 #include "hand.h"
 
 #include <stdbool.h>
@@ -41,9 +38,6 @@ enum { ANY, RANGE, STATUS };
 /* Kinds in which a number is not permitted, a bit each; and one that depends on flag 4. */
 enum { ACCOUNTING = 0x7C, ON_OFF = 0x30, NOT_STOP = 0x76, NO_CLASS = 0x80, USAGE = 0x4C };
 
-#ifdef LIMITS
-#include "limits.h"
-#else
 
 struct number {
     uint8_t shape, allowed, low, high, once, barred;
@@ -144,7 +138,6 @@ static inline bool pack_digits(uint8_t *to, const uint8_t *text, size_t count)
     }
     return true;
 }
-#endif
 
 static gir_answer refusal(uint32_t number, uint64_t second)
 {
@@ -327,16 +320,20 @@ static inline size_t put_shaped(uint8_t *to, uint8_t shape, const uint8_t *value
     }
 }
 
-/* Reads what is let in; the sheet is made in a buffer of its own. */
-static inline gir_answer read_in(const uint8_t *area, size_t area_len, uint32_t kind,
-                                 uint32_t flags, uint8_t *sheet, size_t room, uint8_t *made)
+gir_answer hand_read(const uint8_t *area, size_t area_len, uint32_t kind, uint32_t flags,
+                     uint8_t *sheet, size_t room)
 {
+    uint32_t bad = at_once(kind, flags, area_len);
+    if (bad)
+        return refusal(bad, bad == 3 ? area_len : 0);
+
+    uint8_t made[GIR_SHEET_ROOM(LONGEST) + SLACK];
     const uint8_t *at = area, *end = area + area_len;
     uint8_t *to = made + SHEET_HEAD;
     uint32_t items = 0;
     while (at != end) {
         struct attribute it;
-        uint32_t bad = frame(at, (size_t)(end - at), &it);
+        bad = frame(at, (size_t)(end - at), &it);
         if (bad)
             return refusal(bad, (uint64_t)(at - area));
         to[0] = (uint8_t)(it.key >> 8);
@@ -362,25 +359,6 @@ static inline gir_answer read_in(const uint8_t *area, size_t area_len, uint32_t 
     memcpy(made, head, SHEET_HEAD);
     memcpy(sheet, made, length);
     return (gir_answer){.length = length};
-}
-
-gir_answer hand_read(const uint8_t *area, size_t area_len, uint32_t kind, uint32_t flags,
-                     uint8_t *sheet, size_t room)
-{
-    uint32_t bad = at_once(kind, flags, area_len);
-    if (bad)
-        return refusal(bad, bad == 3 ? area_len : 0);
-
-#ifdef LIMITS
-    if (area_len <= 512) {
-        uint8_t cleared[GIR_SHEET_ROOM(512)] = {0};
-        return read_in(area, area_len, kind, flags, sheet, room, cleared);
-    }
-    uint8_t made[GIR_SHEET_ROOM(LONGEST)] = {0};
-#else
-    uint8_t made[GIR_SHEET_ROOM(LONGEST) + SLACK];
-#endif
-    return read_in(area, area_len, kind, flags, sheet, room, made);
 }
 
 /* ---- check ---- */
@@ -420,7 +398,6 @@ static inline bool meets(uint8_t shape, const uint8_t *value, size_t count)
     }
 }
 
-#ifndef LIMITS
 /* Whether a value that meets its shape is allowed. */
 static inline bool is_allowed(const struct number *of, const uint8_t *value, size_t count,
                               uint32_t kind)
@@ -433,7 +410,6 @@ static inline bool is_allowed(const struct number *of, const uint8_t *value, siz
         return read >= of->low && read <= of->high;
     return kind == 1 || read == status[kind];
 }
-#endif
 
 static inline uint32_t has(const uint8_t *seen, uint32_t number)
 {
@@ -477,71 +453,6 @@ static uint32_t *put_ends(uint32_t *to, uint32_t place, const uint8_t *seen, uin
     return to;
 }
 
-#ifdef LIMITS
-/* Counts the entries, and lays them as far as there is room; or gives the first refusal of the
- * framing with its place. */
-static uint32_t pass(const uint8_t *area, size_t area_len, const uint8_t *row, uint32_t kind,
-                     uint32_t flags, uint32_t *list, size_t room, size_t *counted)
-{
-    uint8_t seen[512] = {0};
-    size_t place = 0, at = 0;
-#define ENTRY(rule, when)                                                                         \
-    do {                                                                                          \
-        if (when) {                                                                               \
-            if (at < room)                                                                        \
-                list[at] = (uint32_t)place << 20 | (uint32_t)(rule) << 16 | it.key;               \
-            at++;                                                                                 \
-        }                                                                                         \
-    } while (0)
-    while (place != area_len) {
-        struct attribute it;
-        uint32_t bad = frame(area + place, area_len - place, &it);
-        if (bad) {
-            *counted = place;
-            return bad;
-        }
-        bool again = seen[it.number] && is_once(it.number);
-        bool met = meets(shape_of(it.number), it.value, it.count);
-        bool offends = met && !is_allowed(it.number, it.value, kind);
-        bool bars = is_barred(row, it.number, kind, flags);
-        if (!met | offends | again | bars) {
-            ENTRY(1, !met);
-            ENTRY(2, offends);
-            ENTRY(3, again);
-            ENTRY(4, bars);
-        }
-        seen[it.number] = 1;
-        place += it.length;
-    }
-#undef ENTRY
-    uint32_t ends[16], *last = put_ends(ends, (uint32_t)place, seen, kind, flags);
-    for (const uint32_t *end = ends; end != last; end++, at++)
-        if (at < room)
-            list[at] = *end;
-    *counted = at;
-    return 0;
-}
-
-gir_answer hand_check(const uint8_t *area, size_t area_len, uint32_t kind, uint32_t flags,
-                      uint32_t *list, size_t room)
-{
-    uint32_t bad = at_once(kind, flags, area_len);
-    if (bad)
-        return refusal(bad, bad == 3 ? area_len : 0);
-
-    uint8_t row[256];
-    lay_row(row, kind);
-    size_t counted;
-    bad = pass(area, area_len, row, kind, flags, list, 0, &counted);
-    if (bad)
-        return refusal(bad, counted);
-    if (counted > room)
-        return refusal(10, counted);
-    if (counted > 0)
-        pass(area, area_len, row, kind, flags, list, room, &counted);
-    return (gir_answer){.length = counted};
-}
-#else
 gir_answer hand_check(const uint8_t *area, size_t area_len, uint32_t kind, uint32_t flags,
                       uint32_t *list, size_t room)
 {
@@ -582,7 +493,6 @@ gir_answer hand_check(const uint8_t *area, size_t area_len, uint32_t kind, uint3
     memcpy(list, made, length * sizeof *list);
     return (gir_answer){.length = length};
 }
-#endif
 
 /* ---- write ---- */
 
@@ -663,9 +573,6 @@ gir_answer hand_write(const uint8_t *sheet, size_t sheet_len, uint8_t *area, siz
 
     /* what no longer fits goes again and again to the same place after the longest area */
     uint8_t made[LONGEST + SLACK];
-#ifdef LIMITS
-    memset(made, 0, 1024); /* as much as most areas need */
-#endif
     size_t length = 0;
     const uint8_t *at = sheet + SHEET_HEAD, *end = sheet + sheet_len;
     uint32_t items = (uint32_t)sheet[7] << 8 | sheet[8];
