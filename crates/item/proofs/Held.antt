@@ -45,15 +45,6 @@ module _ (a b c : ℕ) (st : List ℕ) (n : length st ≡ packedLength c) (o : O
       rw (text-length (unpack c st), unpack-length c st n, values-text (unpack c st) (unpack-halves c st o), eq-eqb (length st) (packedLength c) n)
       (and-assoc (between a b c) (all isDigit (text (unpack c st))) (same (pack (unpack c st)) st))
 
-  pub digits-few : c < a → false ≡ held (digits a b) c st
-  digits-few h = sym (digits-held ∙ rw (lt-leb a c h))
-
-  pub digits-many : b < c → false ≡ held (digits a b) c st
-  digits-many h = sym (digits-held ∙ rw (lt-leb c b h, and-false (leb a c)))
-
-  pub digits-packed : a ≤ c → c ≤ b → packedDigits c st ≡ held (digits a b) c st
-  digits-packed h g = sym (digits-held ∙ rw (le-leb a c h, le-leb c b g))
-
 -- ---- Hexadecimal text
 
 twice : (c : ℕ) → eqb (2 * c) 16 ≡ eqb c 8

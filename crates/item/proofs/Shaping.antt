@@ -1,22 +1,24 @@
 -- Which numbers have a form of their own, and what octets are in it: a law for each answer of the tests by the form.
 -- Assumes nothing.
 use mathlib.Core.Path.{_≡_, refl, sym, ap, subst, _∙_}
-use mathlib.Core.Logic.{_⊎_, inl, inr}
 use mathlib.Core.Bool.{Bool, true, false, not, _&&_, _||_}
 use mathlib.Core.List.{List, [], _∷_}
-use Prim.Native.Nat.{ℕ, _<_, _≤_}
+use Prim.Native.Nat.{ℕ, _≤_}
 use native.Mathlib.Omega.{arith}
 use lib.Dec.{T, eqb, leb, eqb→eq}
-use borrow.Author.Tests.{eq-eqb, ne-eqb, eqb-true}
-use Rattle.meaning.specs.Octets.{isIn}
-use Rattle.meaning.specs.Shapes.{Shape, free, shapeOf}
+use lib.ListN.{length}
+use borrow.Author.Tests.{eq-eqb, eqb-true}
+use Rattle.meaning.specs.Octets.{Octets, isIn, between, packedLength}
+use Rattle.meaning.specs.Shapes.{Shape, number, address, digits, hexadecimal, qos, hexDigit, anyOctet, decimalDigit, atLeast, exactly, blocks, free, shapeOf}
 use Rattle.meaning.specs.Sheet.{formOf}
-use Rattle.meaning.proofs.Tests.{left-or, is-true}
+use Rattle.meaning.proofs.Tests.{left-or, is-true, not-both}
+use Rattle.octets.specs.DigitStrings.{packedDigits}
 use Rattle.shape.specs.Codes.{codeOf, shapes, shapeBy}
 use Rattle.shape.proofs.Codes.{each, every-shape, Past, alone}
-use Rattle.shape.proofs.Coded.{past-not-in, passesIn, passes-in, passes-from}
+use Rattle.shape.proofs.Coded.{past-not-in, passesIn, passes-from}
 use Rattle.shape.proofs.Formed.{code-shape}
-use Rattle.item.specs.Stands.{held, shaped}
+use Rattle.item.specs.Stands.{held, shaped, takesDigits}
+use Rattle.item.proofs.Held.{digits-held}
 
 -- ---- The numbers of a form
 
@@ -32,22 +34,9 @@ is-false : (b : Bool) → T (not b) → b ≡ false
 is-false true t = absurd t
 is-false false t = refl
 
--- neither of two numbers
-pub in-neither : (n a b : ℕ) → ((n ≡ a) ⊎ (n ≡ b) → ⊥) → isIn n (a ∷ b ∷ []) ≡ false
-in-neither n a b h = rw (ne-eqb n a (λ e. h (inl e)), ne-eqb n b (λ e. h (inr e)))
-
-module _ (f : ℕ) (from : ℕ) where
-  -- the numbers from one to below another have the form
-  pub form-here : (to : ℕ) → T (passesIn (has f) [] from to) → (n : ℕ) → from ≤ n → n < to → true ≡ has f (shapeOf n)
-  form-here to t n low high = sym (is-true (has f (shapeOf n)) (passes-in (has f) [] from to t n refl low high))
-
-  -- they have it not, but for some
-  pub form-not : (but : List ℕ) (to : ℕ) → T (passesIn (hasNot f) but from to) → (n : ℕ) → isIn n but ≡ false → from ≤ n → n < to → false ≡ has f (shapeOf n)
-  form-not but to t n out low high = sym (is-false (has f (shapeOf n)) (passes-in (hasNot f) but from to t n out low high))
-
-  -- nor have those from one on
-  pub form-not-from : (but : List ℕ) → T (hasNot f free) → T (passesIn (hasNot f) but from 275) → (n : ℕ) → isIn n but ≡ false → from ≤ n → false ≡ has f (shapeOf n)
-  form-not-from but o t n out low = sym (is-false (has f (shapeOf n)) (passes-from (hasNot f) but from o t n out low))
+-- the numbers from one on have another form, but for some
+pub form-not-from : (f from : ℕ) (but : List ℕ) → T (hasNot f free) → T (passesIn (hasNot f) but from 275) → (n : ℕ) → isIn n but ≡ false → from ≤ n → false ≡ has f (shapeOf n)
+form-not-from f from but o t n out low = sym (is-false (has f (shapeOf n)) (passes-from (hasNot f) but from o t n out low))
 
 -- a form that one number has
 pub form-of-one : (f k : ℕ) → T (has f (shapeOf k)) → T (hasNot f free) → T (passesIn (hasNot f) (k ∷ []) 0 275) → (n : ℕ) → eqb n k ≡ has f (shapeOf n)
@@ -56,11 +45,6 @@ form-of-one f k own o t n = go (eqb n k) refl
     go : (b : Bool) → eqb n k ≡ b → b ≡ has f (shapeOf n)
     go true e = sym (is-true (has f (shapeOf n)) (subst (λ (m : ℕ). T (has f (shapeOf m))) (sym (eqb-true n k e)) own))
     go false e = form-not-from f 0 (k ∷ []) o t n (rw e) (omega arith)
-
--- the numbers from one to below another have the shape of a code
-pub shape-here : (code from to : ℕ) → T (passesIn (λ s. eqb (codeOf s) code) [] from to) → (n : ℕ) → from ≤ n → n < to → shapeOf n ≡ shapeBy code
-shape-here code from to t n low high =
-    sym (code-shape n code (sym (eqb→eq (codeOf (shapeOf n)) code (passes-in (λ (s : Shape). eqb (codeOf s) code) [] from to t n refl low high))))
 
 -- ---- Octets in a form
 
@@ -101,3 +85,56 @@ module _ (n f c : ℕ) (st : List ℕ) where
           let out : isIn (formOf (shapeOf n)) forms ≡ false = ap (λ (k : ℕ). isIn k forms) own ∙ past-not-in (Unit {0}) f (alone forms) p in
           let low : T (not (leb 2 (formOf (shapeOf n)))) = subst (λ (b : Bool). T (b || not (leb 2 (formOf (shapeOf n))))) out (every-shape (λ (s : Shape). isIn (formOf s) forms || not (leb 2 (formOf s))) tt tt n) in
           rw (is-false (leb 2 (formOf (shapeOf n))) low)
+
+-- ---- Digits
+
+-- a shape that is not of digits takes none
+takes-none : (s : Shape) (c : ℕ) → has 4 s ≡ false → false ≡ takesDigits s c
+unfolding formOf takesDigits
+takes-none number c e = refl
+takes-none address c e = refl
+takes-none (digits a b) c e = absurd (let z : true ≡ false = e in not-both z)
+takes-none hexadecimal c e = refl
+takes-none qos c e = refl
+takes-none hexDigit c e = refl
+takes-none anyOctet c e = refl
+takes-none decimalDigit c e = refl
+takes-none (atLeast n) c e = refl
+takes-none (exactly n) c e = refl
+takes-none blocks c e = refl
+takes-none free c e = refl
+
+module _ (n c : ℕ) where
+  -- the numbers that take 5 or 6 digits, and those that take 1 to 15
+  pub takes-few : eqb (codeOf (shapeOf n)) 41 ≡ true → between 5 6 c ≡ takesDigits (shapeOf n) c
+  unfolding takesDigits shapeBy codeOf
+  takes-few e = ap (λ (s : Shape). takesDigits s c) (code-shape n 41 (sym (eqb-true (codeOf (shapeOf n)) 41 e)))
+
+  pub takes-many : eqb (codeOf (shapeOf n)) 41 ≡ false → eqb (codeOf (shapeOf n)) 40 && between 1 15 c ≡ takesDigits (shapeOf n) c
+  unfolding takesDigits shapeBy codeOf formOf
+  takes-many h = go (eqb (codeOf (shapeOf n)) 40) refl
+    where
+      go : (b : Bool) → eqb (codeOf (shapeOf n)) 40 ≡ b → b && between 1 15 c ≡ takesDigits (shapeOf n) c
+      go true e = ap (λ (s : Shape). takesDigits s c) (code-shape n 40 (sym (eqb-true (codeOf (shapeOf n)) 40 e)))
+      go false e =
+          let other : T (hasNot 4 (shapeOf n)) = rw (e, h) at (every-shape (λ (s : Shape). (eqb (codeOf s) 40 || eqb (codeOf s) 41) || hasNot 4 s) tt tt n) in
+          takes-none (shapeOf n) c (is-false (has 4 (shapeOf n)) other)
+
+  -- octets are so many digits of a number
+  pub digits-shaped : (st : List ℕ) → length st ≡ packedLength c → Octets st → shaped n 4 c st ≡ takesDigits (shapeOf n) c && packedDigits c st
+  unfolding shaped formOf takesDigits
+  digits-shaped st l o = go (shapeOf n)
+    where
+      go : (s : Shape) → has 4 s && held s c st ≡ takesDigits s c && packedDigits c st
+      go (digits a b) = digits-held a b c st l o
+      go number = refl
+      go address = refl
+      go hexadecimal = refl
+      go qos = refl
+      go hexDigit = refl
+      go anyOctet = refl
+      go decimalDigit = refl
+      go (atLeast k) = refl
+      go (exactly k) = refl
+      go blocks = refl
+      go free = refl

@@ -1,13 +1,13 @@
 -- 23, "an item that no readable attribute gives", of an item whose head and stored octets are there: by its form, and for form 2 to 7
 -- by the shape of its number. Assumes nothing.
-use Prim.Native.Nat.{ℕ}
-use mathlib.Core.Bool.{Bool, not, _&&_}
+use Prim.Native.Nat.{ℕ, _-_, _/_, _%_, _^_}
+use mathlib.Core.Bool.{Bool, false, cond, not, _&&_}
 use mathlib.Core.List.{List, _∷_}
-use lib.Dec.{eqb, leb}
+use lib.Dec.{eqb, leb, ltb}
 use lib.ListN.{length, take}
-use Rattle.meaning.specs.Octets.{same, numberOf}
-use Rattle.meaning.specs.Framing.{vendor3gpp}
-use Rattle.meaning.specs.Shapes.{Shape, shapeOf, meets}
+use Rattle.meaning.specs.Octets.{between, same, numberOf}
+use Rattle.meaning.specs.Framing.{isPlain, vendor3gpp}
+use Rattle.meaning.specs.Shapes.{Shape, number, address, digits, hexadecimal, qos, hexDigit, anyOctet, decimalDigit, atLeast, exactly, blocks, free, shapeOf, meets}
 use Rattle.meaning.specs.Sheet.{formOf, storedOf, valueOf, form, item, carries, numberIn, valueIn}
 
 -- some readable attribute gives the item of this head and these stored octets
@@ -20,9 +20,32 @@ standsFor t s f c st =
 unfoldable pub otherVendor : List ℕ → Bool
 otherVendor v = leb 5 (length v) && not (eqb (numberOf (take 4 v)) vendor3gpp)
 
+-- a number below 64 is in a set that is told by its bits
+abbrev pub inSet : (set number : ℕ) → Bool
+inSet set n = ltb n 64 && eqb (set / 2 ^ (n % 64) % 2) 1
+
+-- a carried number is in a set of plain numbers or in one of 3GPP numbers
+unfoldable pub inSets : (plain gpp number : ℕ) → Bool
+inSets p g n = inSet (cond (isPlain n) p g) (cond (isPlain n) n (n - 256))
+
 -- a value that stands as it is, in form 0 or 1
 unfoldable pub raw : (number form : ℕ) → List ℕ → Bool
-raw n f v = eqb (form n v) f && carries n v
+raw n f v = leb f 1 && (eqb (form n v) f && carries n v)
+
+-- a shape is of digits, and takes so many
+unfoldable pub takesDigits : Shape → (count : ℕ) → Bool
+takesDigits (digits a b) c = between a b c
+takesDigits number c = false
+takesDigits address c = false
+takesDigits hexadecimal c = false
+takesDigits qos c = false
+takesDigits hexDigit c = false
+takesDigits anyOctet c = false
+takesDigits decimalDigit c = false
+takesDigits (atLeast n) c = false
+takesDigits (exactly n) c = false
+takesDigits blocks c = false
+takesDigits free c = false
 
 -- a shape has a form of its own, and the octets are what it stores of the value that they stand for
 unfoldable pub held : Shape → (count : ℕ) → List ℕ → Bool
@@ -31,3 +54,7 @@ held s c st = leb 2 (formOf s) && (meets s (valueOf s c st) && same (storedOf s 
 -- the same of the shape of a number, whose form is this one
 unfoldable pub shaped : (number form count : ℕ) → List ℕ → Bool
 shaped n f c st = eqb (formOf (shapeOf n)) f && held (shapeOf n) c st
+
+-- some readable attribute of a number gives an item of this form, count and stored octets: a value as it stands, or in its shape
+unfoldable pub standsAs : (number form count : ℕ) → List ℕ → Bool
+standsAs n f c st = cond (ltb f 2) (raw n f st) (shaped n f c st)

@@ -1,20 +1,19 @@
-// Items of a sheet: what stands at a place of a sheet, and whether some readable attribute gives it. Each public function takes any
-// arguments.
+// Items of a sheet: what the head of an item says, and whether some readable attribute gives the item, one question a form. Each public
+// function takes any arguments.
 use area::Refusal;
 ghost use mathlib.Core.Path.{_≡_};
 ghost use mathlib.Core.Bool.{_&&_};
 ghost use lib.Dec.{eqb, leb};
 ghost use lib.ListN.{length, getD};
-ghost use Rattle.meaning.specs.Octets.{packedLength};
-ghost use Rattle.meaning.specs.Shapes.{digits, qos, shapeOf};
+ghost use Rattle.meaning.specs.Shapes.{qos, shapeOf};
 ghost use Rattle.meaning.specs.Sheet.{numberIn};
 ghost use Rattle.meaning.specs.Sheet as meant;
-ghost use Rattle.item.specs.Stands.{otherVendor, held, shaped, raw, standsFor};
-ghost use Rattle.item.specs.Answers.{enteredAt, enteredOf};
+ghost use Rattle.item.specs.Stands.{otherVendor, inSets, takesDigits, held, shaped, raw};
+ghost use Rattle.item.specs.Answers.{headedAt, headRefused};
 
-// What stands at a place of a sheet: an item with the number that it carries, 0 to 255 for a plain one and 256 more than the
-// sub-attribute's for a 3GPP one, its form and count, and the place behind it; or a refusal, 22 or 23.
-pub enum Entered {
+// What the head of an item says: the number that it carries, 0 to 255 for a plain one and 256 more than the sub-attribute's for a 3GPP
+// one, its form and count, and the place behind the octets it stores; or a refusal, 22 or 23.
+pub enum Headed {
     Item {
         number: u16,
         form: u8,
@@ -25,10 +24,10 @@ pub enum Entered {
 }
 
 // A refusal at a place.
-fn refused(sheet: &[u8], number: u32, place: usize) -> Entered
-    ensures { λ r. ⌜ r ≡ enteredOf (now (sheet .entry)) place (meant.refused number) ⌝ }
+fn refused(number: u32, place: usize) -> Headed
+    ensures { λ r. ⌜ r ≡ headRefused number place ⌝ }
 {
-    Entered::Refused(Refusal {
+    Headed::Refused(Refusal {
         number,
         second: place,
     })
@@ -73,32 +72,65 @@ pub fn carries(number: u16, value: &[u8]) -> bool
     other_vendor(value)
 }
 
-// Whether a value stands as it is, in form 0 or 1: it takes that form, and an attribute carries it.
-fn is_raw(number: u16, form: u8, value: &[u8]) -> bool
+// Whether a number is in a set of plain numbers or in one of 3GPP numbers, each below 64: the bits of two numbers.
+fn is_in(plain: u64, gpp: u64, number: u16) -> bool
+    ensures { λ r. ⌜ r ≡ inSets plain gpp number ⌝ }
+{
+    let set = if number < 256 { plain } else { gpp };
+    let n = if number < 256 { number } else { number - 256 };
+    (n < 64) & ((set >> (n % 64) as u64) % 2 == 1)
+}
+
+// Whether a number has a form of its own, 2 to 7: plain 4, 6 to 9, 31, 40 to 49 and 61, 3GPP 1 to 12 and 18.
+fn has_form(number: u16) -> bool
+    ensures { λ r. ⌜ r ≡ leb 2 (meant.formOf (shapeOf number)) ⌝ }
+{
+    is_in(0x2003_ff00_8000_03d0, 0x4_1ffe, number)
+}
+
+// Whether a number's own form is 2, a number: plain 6, 7, 40 to 43, 45 to 49 and 61, 3GPP 2 and 3.
+pub fn is_number(number: u16) -> bool
+    ensures { λ r. ⌜ r ≡ eqb (meant.formOf (shapeOf number)) 2 ⌝ }
+{
+    is_in(0x2003_ef00_0000_00c0, 0xc, number)
+}
+
+// Whether a number's own form is 3, an address: plain 4, 8 and 9, 3GPP 4, 6 and 7.
+pub fn is_address(number: u16) -> bool
+    ensures { λ r. ⌜ r ≡ eqb (meant.formOf (shapeOf number)) 3 ⌝ }
+{
+    is_in(0x310, 0xd0, number)
+}
+
+// Whether a number's own form is 4, digits, and it takes so many: 3GPP 8, 9 and 18 take 5 or 6, plain 31 and 3GPP 1 take 1 to 15.
+pub fn takes_digits(number: u16, count: u8) -> bool
+    ensures { λ r. ⌜ r ≡ takesDigits (shapeOf number) count ⌝ }
+{
+    if is_in(0, 0x4_0300, number) {
+        return (5 <= count) & (count <= 6);
+    }
+    is_in(0x8000_0000, 2, number) & ((1 <= count) & (count <= 15))
+}
+
+// Whether a value stands as it is, in form 0 or 1: it takes that form, and an attribute carries it. Only a number with a form of its
+// own has a shape to ask for.
+pub fn is_raw(number: u16, form: u8, value: &[u8]) -> bool
     ensures { λ r. ⌜ r ≡ raw number form (now (value .entry)) ⌝ }
 {
-    if shape::form_of(number, value) != form {
+    let plain: u8 = if number < 256 { 0 } else { 1 };
+    if form != plain {
         return false;
+    }
+    if has_form(number) {
+        if shape::form_of(number, value) != form {
+            return false;
+        }
     }
     carries(number, value)
 }
 
-// Whether octets are so many digits, `least` to `most` of them.
-fn holds_digits(stored: &[u8], count: u8, least: u8, most: u8) -> bool
-    requires { ⌜ length (now stored) ≡ packedLength count ⌝ }
-    ensures { λ r. ⌜ r ≡ held (digits least most) count (now (stored .entry)) ⌝ }
-{
-    if count < least {
-        return false;
-    }
-    if most < count {
-        return false;
-    }
-    octets::are_packed(stored, octets::wide(count))
-}
-
 // Whether octets are a QoS profile: "release octet 98 or 99, then 3 or 11 octets".
-fn holds_qos(stored: &[u8]) -> bool
+pub fn holds_qos(stored: &[u8]) -> bool
     ensures { λ r. ⌜ r ≡ held qos 0 (now (stored .entry)) ⌝ }
 {
     if stored.len() == 4 {
@@ -120,40 +152,8 @@ fn holds_one(stored: &[u8], most: u8) -> bool
     stored[0] <= most
 }
 
-// Whether a number's own form is 2, a number.
-fn is_number(number: u16) -> bool
-    ensures { λ r. ⌜ r ≡ eqb (meant.formOf (shapeOf number)) 2 ⌝ }
-{
-    match number {
-        6 | 7 | 40 | 41 | 42 | 43 | 45 | 46 | 47 | 48 | 49 | 61 | 258 | 259 => true,
-        _ => false,
-    }
-}
-
-// Whether a number's own form is 3, an address.
-fn is_address(number: u16) -> bool
-    ensures { λ r. ⌜ r ≡ eqb (meant.formOf (shapeOf number)) 3 ⌝ }
-{
-    match number {
-        4 | 8 | 9 | 260 | 262 | 263 => true,
-        _ => false,
-    }
-}
-
-// Whether a number's own form is 4, digits, and octets are so many of them as it takes.
-fn are_digits(number: u16, count: u8, stored: &[u8]) -> bool
-    requires { ⌜ length (now stored) ≡ packedLength count ⌝ }
-    ensures { λ r. ⌜ r ≡ shaped number 4 count (now (stored .entry)) ⌝ }
-{
-    match number {
-        31 | 257 => holds_digits(stored, count, 1, 15),
-        264 | 265 | 274 => holds_digits(stored, count, 5, 6),
-        _ => false,
-    }
-}
-
 // Whether a number's own form is 7, one octet, and octets are one that it takes.
-fn is_octet(number: u16, stored: &[u8]) -> bool
+pub fn is_octet(number: u16, stored: &[u8]) -> bool
     ensures { λ r. ⌜ r ≡ shaped number 7 (length (now (stored .entry))) (now (stored .entry)) ⌝ }
 {
     match number {
@@ -164,64 +164,32 @@ fn is_octet(number: u16, stored: &[u8]) -> bool
     }
 }
 
-// Whether a number's own form is this one, and octets are what it stores of some value.
-fn is_shaped(number: u16, form: u8, count: u8, stored: &[u8]) -> bool
-    requires { ⌜ length (now stored) ≡ meant.storedLength form count ⌝ }
-    ensures { λ r. ⌜ r ≡ shaped number form count (now (stored .entry)) ⌝ }
-{
-    match form {
-        2 => is_number(number) & (count == 4),
-        3 => is_address(number) & (count == 4),
-        4 => are_digits(number, count, stored),
-        5 => (number == 44) & (count == 8),
-        6 => (number == 261) & holds_qos(stored),
-        7 => is_octet(number, stored),
-        _ => false,
-    }
-}
-
-// Whether some readable attribute gives the item, whose head and stored octets are there.
-fn stands(t: u8, sub: u8, form: u8, count: u8, stored: &[u8]) -> bool
-    requires { ⌜ length (now stored) ≡ meant.storedLength form count ⌝ }
-    ensures { λ r. ⌜ r ≡ standsFor t sub form count (now (stored .entry)) ⌝ }
-{
-    let number = number_in(t, sub, form);
-    if (number < 256) & (sub != 0) {
-        return false;
-    }
-    if form < 2 {
-        return is_raw(number, form, stored);
-    }
-    is_shaped(number, form, count, stored)
-}
-
-// What stands at a place of a sheet, whatever the place.
-pub fn item_at(sheet: &[u8], place: usize) -> Entered
-    ensures { λ r. ⌜ r ≡ enteredOf (now (sheet .entry)) place (enteredAt (now (sheet .entry)) place) ⌝ }
+// What the head of an item at a place of a sheet says, whatever the place.
+pub fn head_at(sheet: &[u8], place: usize) -> Headed
+    ensures { λ r. ⌜ r ≡ headedAt (now (sheet .entry)) place ⌝ }
 {
     if sheet.len() <= place {
-        return refused(sheet, 22, place);
+        return refused(22, place);
     }
     let left = sheet.len() - place;
     if left < 4 {
-        return refused(sheet, 22, place);
+        return refused(22, place);
     }
     let form = sheet[place + 2];
     let count = sheet[place + 3];
     let size = 4 + shape::stored_len(form, count as usize);
     if left < size {
-        return refused(sheet, 22, place);
+        return refused(22, place);
     }
-    let t = sheet[place];
     let sub = sheet[place + 1];
-    let next = place + size;
-    if !stands(t, sub, form, count, &sheet[place + 4..next]) {
-        return refused(sheet, 23, place);
+    let number = number_in(sheet[place], sub, form);
+    if (number < 256) & (sub != 0) {
+        return refused(23, place);
     }
-    Entered::Item {
-        number: number_in(t, sub, form),
+    Headed::Item {
+        number,
         form,
         count,
-        next,
+        next: place + size,
     }
 }

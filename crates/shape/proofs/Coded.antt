@@ -36,11 +36,11 @@ past-not-in before n (l ∷ arms) p =
     not-one n l (named arms) (past-before (before × (OneOf l n → ⊥)) n arms p .1) (past-not-in (before × (OneOf l n → ⊥)) n arms p)
 
 -- a test passes at each number below a bound
-abbrev below : (ℕ → Bool) → ℕ → Bool
+abbrev pub below : (ℕ → Bool) → ℕ → Bool
 below p zero = true
 below p (suc n) = p n && below p n
 
-below-at : (p : ℕ → Bool) (bound n : ℕ) → T (below p bound) → n < bound → T (p n)
+pub below-at : (p : ℕ → Bool) (bound n : ℕ) → T (below p bound) → n < bound → T (p n)
 below-at p zero n t h = absurd (omega (arith, h))
 below-at p (suc b) n t h = go (ltb n b) refl (below-at p b n (parts (p b) (below p b) t .1))
   where
@@ -76,7 +76,7 @@ gpp-above : (s : ℕ) → 19 ≤ s → gppShape s ≡ free
 unfolding gppShape
 gpp-above s h = simp (from 19 s h)
 
-above : (n : ℕ) → 275 ≤ n → shapeOf n ≡ free
+pub above : (n : ℕ) → 275 ≤ n → shapeOf n ≡ free
 unfolding shapeOf
 above n h = rw (le-ltb n 256 (omega arith)) (gpp-above (n - 256) (omega arith))
 

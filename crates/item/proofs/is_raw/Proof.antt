@@ -1,21 +1,42 @@
--- Another form, or what an attribute carries. Assumes nothing.
+-- Another form than that of a value as it stands, a value that meets its shape, or what an attribute carries. Assumes nothing.
 use borrow.Author.Needs.{needs}
-use mathlib.Core.Path.{_∙_}
-use Rattle.item.proofs.Judging.{raw-other, raw-form}
+use borrow.Author.Tests.{lt-ltb, le-ltb}
+use mathlib.Core.Path.{_≡_, sym, _∙_}
+use mathlib.Core.Logic.{⊎-elim}
+use mathlib.Core.Bool.{cond}
+use Rattle.meaning.specs.Framing.{isPlain}
+use Rattle.item.proofs.Judging.{raw-other, raw-shaped, raw-form, raw-formless}
 use Rattle.item.proofs.is_raw.Statement.{statement}
 use Rattle.item.proofs.is_raw.Tie as tie
+
+-- the form of a value as it stands
+plain-form : (c : tie.Joined1) → c .if1 .plain ≡ cond (isPlain (c .before .before .args .number)) 0 1
+plain-form c =
+    let n = c .before .before .args .number in
+    ⊎-elim (λ k. k .1 ∙ rw (lt-ltb n 256 (k .0 .taken))) (λ k. k .1 ∙ rw (le-ltb n 256 (k .0 .left))) (c .if1 .came)
+
+returns : tie.Need-returns
+returns c = raw-other _ _ _ (λ e. c .if2 .taken (e ∙ sym (plain-form (c .before))))
+
+has-form-requires : tie.Need-has-form-requires
+has-form-requires c κs = search needs
 
 form-of-requires : tie.Need-form-of-requires
 form-of-requires c κs = search needs
 
-returns : tie.Need-returns
-returns c = raw-other _ _ _ _ (c .before .form-of .ensures) (c .if1 .taken)
+returns-2 : tie.Need-returns-2
+returns-2 c = raw-shaped _ _ _ _ (c .before .form-of .ensures) (c .if4 .taken)
 
 carries-requires : tie.Need-carries-requires
 carries-requires c κs = search needs
 
-returns-2 : tie.Need-returns-2
-returns-2 c = c .carries .ensures ∙ raw-form _ _ _ _ (c .before .before .form-of .ensures) (c .before .if1 .left)
+returns-3 : tie.Need-returns-3
+returns-3 c =
+    let f = c .before .before .before .if2 .left ∙ plain-form (c .before .before .before .before) in
+    c .carries .ensures
+    ∙ ⊎-elim (λ k. raw-form _ _ _ _ (k .1 .ensures) f (k .2 .left)) (λ k. raw-formless _ _ _ f (sym (c .before .before .has-form .ensures) ∙ k .left)) (c .before .if3 .came)
 
 pub is-raw-spec : {M : Type 1} → statement M
-is-raw-spec = tie.close (tie.spec form-of-requires returns carries-requires returns-2)
+is-raw-spec =
+    tie.close
+    (tie.spec returns has-form-requires form-of-requires returns-2 carries-requires returns-3)

@@ -1,18 +1,18 @@
--- No head, no stored octets, an item that no attribute gives, and an item. Assumes nothing.
+-- No head, no stored octets, a sub-attribute number on a plain item, and an item. Assumes nothing.
 use borrow.Author.Needs.{needs}
-use borrow.Author.Tests.{not-true, not-false}
+use mathlib.Core.Path.{_∙_}
 use native.Mathlib.Omega.{arith}
 use Prim.Native.Nat.{_+_}
 use lib.ListN.{getD}
-use Rattle.item.proofs.Entering.{stored-low, no-head, refused-22, cut-short, refused-23, item-stands}
-use Rattle.item.proofs.item_at.Statement.{statement}
-use Rattle.item.proofs.item_at.Tie as tie
+use Rattle.item.proofs.Entering.{stored-low, headed-short, headed-cut, headed-sub, headed-item}
+use Rattle.item.proofs.head_at.Statement.{statement}
+use Rattle.item.proofs.head_at.Tie as tie
 
 refused-requires : tie.Need-refused-requires
 refused-requires c κs = search needs
 
 returns : tie.Need-returns
-returns c = refused-22 _ _ _ (c .refused .ensures) (no-head _ _ (omega arith))
+returns c = c .refused .ensures ∙ headed-short _ _ (omega arith)
 
 sub-left : tie.Need-sub-left
 sub-left c = search needs
@@ -21,7 +21,7 @@ refused-requires-2 : tie.Need-refused-requires-2
 refused-requires-2 c κs = search needs
 
 returns-2 : tie.Need-returns-2
-returns-2 c = refused-22 _ _ _ (c .refused2 .ensures) (no-head _ _ (omega arith))
+returns-2 c = c .refused2 .ensures ∙ headed-short _ _ (omega arith)
 
 add-form : tie.Need-add-form
 add-form c = search needs
@@ -48,10 +48,7 @@ refused-requires-3 : tie.Need-refused-requires-3
 refused-requires-3 c κs = search needs
 
 returns-3 : tie.Need-returns-3
-returns-3 c = refused-22 _ _ _ (c .refused3 .ensures) (cut-short _ _ _ (c .before .before .stored-len .ensures) (omega arith) (omega arith))
-
-shared-slice-read-t : tie.Need-shared-slice-read-t
-shared-slice-read-t c = search needs
+returns-3 c = c .refused3 .ensures ∙ headed-cut _ _ _ (c .before .before .stored-len .ensures) (omega arith) (omega arith)
 
 add-sub : tie.Need-add-sub
 add-sub c = search needs
@@ -59,38 +56,26 @@ add-sub c = search needs
 shared-slice-read-sub : tie.Need-shared-slice-read-sub
 shared-slice-read-sub c = search needs
 
-add-next : tie.Need-add-next
-add-next c = search needs
+shared-slice-read-number-in : tie.Need-shared-slice-read-number-in
+shared-slice-read-number-in c = search needs
 
-add-stands : tie.Need-add-stands
-add-stands c = search needs
-
-sub-stands : tie.Need-sub-stands
-sub-stands c = search needs
-
-part-stands-start : tie.Need-part-stands-start
-part-stands-start c = search needs
-
-part-stands-end : tie.Need-part-stands-end
-part-stands-end c = search needs
-
-stands-requires : tie.Need-stands-requires
-stands-requires c κs = search needs
+number-in-requires : tie.Need-number-in-requires
+number-in-requires c κs = search needs
 
 refused-requires-4 : tie.Need-refused-requires-4
 refused-requires-4 c κs = search needs
 
 returns-4 : tie.Need-returns-4
-returns-4 c = refused-23 _ _ _ (c .before .before .before .before .before .before .before .stored-len .ensures) (omega arith) _ (c .before .before .stands .ensures) _ (c .refused4 .ensures) (not-true _ (c .before .if4 .taken))
+returns-4 c = c .refused4 .ensures ∙ headed-sub _ _ _ (c .before .before .before .before .before .before .stored-len .ensures) (omega arith) _ (c .before .before .number-in .ensures) (c .before .if4 .taken)
 
-number-in-requires : tie.Need-number-in-requires
-number-in-requires c κs = search needs
+add-t9 : tie.Need-add-t9
+add-t9 c = search needs
 
 returns-5 : tie.Need-returns-5
-returns-5 c = item-stands _ _ _ (c .before .before .before .before .before .before .before .stored-len .ensures) (omega arith) _ (c .before .before .stands .ensures) _ (c .number-in .ensures) (not-false _ (c .before .if4 .left))
+returns-5 c = headed-item _ _ _ (c .before .before .before .before .before .stored-len .ensures) (omega arith) _ (c .before .number-in .ensures) (c .if4 .left)
 
-pub item-at-spec : {M : Type 1} → statement M
-item-at-spec =
+pub head-at-spec : {M : Type 1} → statement M
+head-at-spec =
     tie.close
     (tie.spec
     refused-requires
@@ -107,16 +92,11 @@ item-at-spec =
     add-size
     refused-requires-3
     returns-3
-    shared-slice-read-t
     add-sub
     shared-slice-read-sub
-    add-next
-    add-stands
-    sub-stands
-    part-stands-start
-    part-stands-end
-    stands-requires
+    shared-slice-read-number-in
+    number-in-requires
     refused-requires-4
     returns-4
-    number-in-requires
+    add-t9
     returns-5)
