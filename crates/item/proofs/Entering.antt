@@ -10,7 +10,7 @@ use borrow.Author.Tests.{lt-ltb, le-ltb, ltb-true, ltb-false}
 use lib.ListN.{length, take, drop, getD, length-drop}
 use lib.Seq.{drop-drop, getD-drop, length-take-le}
 use Rattle.meaning.specs.Octets.{Octets, packedLength}
-use Rattle.meaning.specs.Sheet.{numberIn, valueIn, storedLength, holds, refused, judgedItem, wholeItem, entered}
+use Rattle.meaning.specs.Sheet.{numberIn, valueIn, storedLength, Entered, holds, refused, judgedItem, wholeItem, entered}
 use Rattle.meaning.proofs.Octets.{octet-at}
 use Rattle.octets.specs.Parts.{partOf}
 use Rattle.octets.proofs.Parts.{part-within}
@@ -48,19 +48,19 @@ stored-low f c h = go (eqb f 4)
 
 module _ (l : List ℕ) (p : ℕ) where
   -- the head's octets, the octets it stores, and what it names
-  abbrev pub form-at : ℕ
+  abbrev form-at : ℕ
   form-at = getD l (p + 2) 0
 
-  abbrev pub count-at : ℕ
+  abbrev count-at : ℕ
   count-at = getD l (p + 3) 0
 
   abbrev pub size-at : ℕ
   size-at = 4 + storedLength form-at count-at
 
-  abbrev pub number-at : ℕ
+  abbrev number-at : ℕ
   number-at = numberIn (getD l p 0) (getD l (p + 1) 0) form-at
 
-  abbrev pub stored-at : List ℕ
+  abbrev stored-at : List ℕ
   stored-at = partOf l (p + 4) (storedLength form-at count-at)
 
   no-head : length l - p < 4 → enteredAt l p ≡ refused 22
@@ -146,14 +146,20 @@ module _ (l : List ℕ) (p : ℕ) (o : Octets l) (r : Headed) (says : r ≡ head
   -- an item stands where some readable attribute of its number gives it
   module _ (number form count behind : ℕ) (h : AHead number form count behind) where
     -- the stored octets, from behind the head to the place behind the item
-    pub stored-part : take (behind - (p + 4)) (drop (p + 4) l) ≡ stored-at l p
+    stored-part : take (behind - (p + 4)) (drop (p + 4) l) ≡ stored-at l p
     unfolding partOf
     stored-part = let size : behind - (p + 4) ≡ storedLength (form-at l p) (count-at l p) = omega (arith, h .behind-is) in rw size
 
-    pub item-stands : standsAs number form count (take (behind - (p + 4)) (drop (p + 4) l)) ≡ standsFor (getD l p 0) (getD l (p + 1) 0) (form-at l p) (count-at l p) (stored-at l p)
+    pub size-stored : length (take (behind - (p + 4)) (drop (p + 4) l)) ≡ storedLength form count
+    size-stored = ap length stored-part ∙ stored-long (h .room) ∙ sym (λ i. storedLength (h .form-is i) (h .count-is i))
+
+    item-stands : standsAs number form count (take (behind - (p + 4)) (drop (p + 4) l)) ≡ standsFor (getD l p 0) (getD l (p + 1) 0) (form-at l p) (count-at l p) (stored-at l p)
     item-stands =
         rw (stored-part, h .number-is, h .form-is, h .count-is)
         (stands-as (getD l p 0) (getD l (p + 1) 0) (form-at l p) (count-at l p) (stored-at l p) (octet-at l p o) (stored-long (h .room)) (number-at l p) refl (h .sub-is))
 
-    pub item-is : enteredAt l p ≡ cond (standsFor (getD l p 0) (getD l (p + 1) 0) (form-at l p) (count-at l p) (stored-at l p)) (holds (number-at l p) (valueIn (number-at l p) (form-at l p) (count-at l p) (stored-at l p)) (size-at l p)) (refused 23)
-    item-is = judged-at l p (h .room)
+    -- what stands at the place, by the test of the item
+    pub item-is : enteredAt l p ≡ cond (standsAs number form count (take (behind - (p + 4)) (drop (p + 4) l))) (holds number (valueIn number form count (take (behind - (p + 4)) (drop (p + 4) l))) (size-at l p)) (refused 23)
+    item-is =
+        judged-at l p (h .room) ∙ ap (λ (b : Bool). cond b (holds (number-at l p) (valueIn (number-at l p) (form-at l p) (count-at l p) (stored-at l p)) (size-at l p)) (refused 23)) (sym item-stands)
+        ∙ ap (λ (e : Entered). cond (standsAs number form count (take (behind - (p + 4)) (drop (p + 4) l))) e (refused 23)) (sym (λ i. holds (h .number-is i) (valueIn (h .number-is i) (h .form-is i) (h .count-is i) (stored-part i)) (size-at l p)))

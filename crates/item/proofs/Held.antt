@@ -6,7 +6,7 @@ use mathlib.Core.List.{List, [], _∷_}
 use Prim.Native.Nat.{ℕ, suc, _+_, _*_, _-_, _/_, _%_, _<_, _≤_}
 use native.Mathlib.Omega.{arith}
 use lib.Dec.{eqb, leb}
-use borrow.Author.Tests.{le-leb, lt-leb, leb-true, leb-false, eq-eqb, ne-eqb, eqb-true, eqb-false}
+use borrow.Author.Tests.{lt-leb, leb-true, leb-false, eq-eqb, ne-eqb, eqb-true, eqb-false}
 use lib.ListN.{length, take, getD}
 use Rattle.meaning.specs.Octets.{Octets, between, all, same, isDigit, isHex, digitText, values, text, pack, unpack, packedLength}
 use Rattle.meaning.specs.Shapes.{number, address, digits, hexadecimal, qos, hexDigit, anyOctet, decimalDigit, meets, release}

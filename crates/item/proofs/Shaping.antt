@@ -38,13 +38,13 @@ is-false false t = refl
 pub form-not-from : (f from : ℕ) (but : List ℕ) → T (hasNot f free) → T (passesIn (hasNot f) but from 275) → (n : ℕ) → isIn n but ≡ false → from ≤ n → false ≡ has f (shapeOf n)
 form-not-from f from but o t n out low = sym (is-false (has f (shapeOf n)) (passes-from (hasNot f) but from o t n out low))
 
--- a form that one number has
-pub form-of-one : (f k : ℕ) → T (has f (shapeOf k)) → T (hasNot f free) → T (passesIn (hasNot f) (k ∷ []) 0 275) → (n : ℕ) → eqb n k ≡ has f (shapeOf n)
-form-of-one f k own o t n = go (eqb n k) refl
+-- a test that the shape of one number passes
+pub one-number : (p : Shape → Bool) (k : ℕ) → T (p (shapeOf k)) → T (not (p free)) → T (passesIn (λ s. not (p s)) (k ∷ []) 0 275) → (n : ℕ) → eqb n k ≡ p (shapeOf n)
+one-number p k own o t n = go (eqb n k) refl
   where
-    go : (b : Bool) → eqb n k ≡ b → b ≡ has f (shapeOf n)
-    go true e = sym (is-true (has f (shapeOf n)) (subst (λ (m : ℕ). T (has f (shapeOf m))) (sym (eqb-true n k e)) own))
-    go false e = form-not-from f 0 (k ∷ []) o t n (rw e) (omega arith)
+    go : (b : Bool) → eqb n k ≡ b → b ≡ p (shapeOf n)
+    go true e = sym (is-true (p (shapeOf n)) (subst (λ (m : ℕ). T (p (shapeOf m))) (sym (eqb-true n k e)) own))
+    go false e = sym (is-false (p (shapeOf n)) (passes-from (λ (s : Shape). not (p s)) (k ∷ []) 0 o t n (rw e) (omega arith)))
 
 -- ---- Octets in a form
 

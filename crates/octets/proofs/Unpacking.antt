@@ -68,18 +68,22 @@ module _ (f : ℕ → ℕ) (c : ℕ) (s : List ℕ) where
   pub each-over : (n : ℕ) (d p : List ℕ) → n ≡ min c (2 * length s) → p ≡ over (map f (unpack n s)) d → p ≡ over (map f (unpack c s)) d
   each-over n d p e q = q ∙ ap (λ (l : List ℕ). over (map f l) d) (ap (λ (m : ℕ). unpack m s) e ∙ unpack-least c s)
 
+  -- what stands at each place: the high half of an octet, then the low one
+  pub high-at : (i : ℕ) → 2 * i < c → i < length s → getD (map f (unpack c s)) (2 * i) 0 ≡ f (getD s i 0 / 16)
+  high-at i h here = map-at f (unpack c s) (2 * i) 0 0 (omega (arith, unpack-size c s)) ∙ ap f (unpack-high c s i h here)
+
+  pub low-at : (i : ℕ) → 2 * i + 1 < c → i < length s → getD (map f (unpack c s)) (2 * i + 1) 0 ≡ f (getD s i 0 % 16)
+  low-at i h here = map-at f (unpack c s) (2 * i + 1) 0 0 (omega (arith, unpack-size c s)) ∙ ap f (unpack-low c s i h here)
+
   -- a loop over the octets has written the halves before i, and writes the next
   module _ (d out : List ℕ) (i : ℕ) (w : Written (map f (unpack c s)) d out (2 * i)) (here : i < length s) where
     pub high-written : (y : ℕ) → 2 * i < c → y ≡ f (getD s i 0 / 16) → Written (map f (unpack c s)) d (set out (2 * i) y) (2 * i + 1)
-    high-written y h e =
-        let k : 2 * i < length (unpack c s) = omega (arith, unpack-size c s) in
-        written-more _ _ _ _ _ w (omega (arith, each-length)) (e ∙ ap f (sym (unpack-high c s i h here)) ∙ sym (map-at f (unpack c s) (2 * i) 0 0 k))
+    high-written y h e = written-more _ _ _ _ _ w (omega (arith, each-length)) (e ∙ sym (high-at i h here))
 
     pub two-written : (y z : ℕ) → 2 * i + 1 < c → y ≡ f (getD s i 0 / 16) → z ≡ f (getD s i 0 % 16) → Written (map f (unpack c s)) d (set (set out (2 * i) y) (2 * i + 1) z) (2 * (i + 1))
     two-written y z h e g =
-        let k : 2 * i + 1 < length (unpack c s) = omega (arith, unpack-size c s) in
         let next : 2 * (i + 1) ≡ 2 * i + 1 + 1 = omega arith in
-        rw next (written-more _ _ _ _ _ (high-written y (omega arith) e) (omega (arith, each-length)) (g ∙ ap f (sym (unpack-low c s i h here)) ∙ sym (map-at f (unpack c s) (2 * i + 1) 0 0 k)))
+        rw next (written-more _ _ _ _ _ (high-written y (omega arith) e) (omega (arith, each-length)) (g ∙ sym (low-at i h here)))
 
 pub unpacked-length : (c : ℕ) (s : List ℕ) → length (text (unpack c s)) ≡ min c (2 * length s)
 unfolding text
@@ -155,11 +159,6 @@ packed-one x =
 packed-zero : packedDigits 0 [] ≡ true
 unfolding packedDigits text unpack pack
 packed-zero = refl
-
--- other than so many octets are not so many digits
-pub packed-other : (c : ℕ) (s : List ℕ) → (length s ≡ packedLength c → ⊥) → false ≡ packedDigits c s
-unfolding packedDigits
-packed-other c s h = rw (ne-eqb (length s) (packedLength c) h)
 
 -- there are so many octets, and the first i of them have passed, so the rest decides
 pub record Decided (c : ℕ) (s : List ℕ) (i : ℕ) : Type 0 where

@@ -2,14 +2,13 @@
 // buffer, digit strings, and digits two to an octet. Each public function takes any arguments.
 ghost use mathlib.Core.Path.{_≡_};
 ghost use Prim.Native.Nat.{_+_, _*_, _/_, _%_, _^_, _<_, _≤_, min};
-ghost use mathlib.Core.Bool.{_&&_};
 ghost use mathlib.Core.List.{[]};
-ghost use lib.Dec.{eqb, leb};
+ghost use lib.Dec.{leb};
 ghost use lib.ListN.{length, getD};
 ghost use Rattle.meaning.specs.Octets.{all, numberOf, octetsOf, pack, unpack, packedLength, isDigit, isHex, digitValue, digitText, text};
 ghost use Rattle.meaning.specs.Answers.{over};
 ghost use Rattle.octets.specs.Parts.{partOf, Numbered, Written, laidAt, Laid};
-ghost use Rattle.octets.specs.DigitStrings.{halves, digitsOf, gotOf, eightOf, packedDigits, decimals};
+ghost use Rattle.octets.specs.DigitStrings.{halves, digitsOf, gotOf, eightOf};
 
 // "at most fifteen digits together with their count": the digits' values, with 15s behind them.
 pub struct Digits {
@@ -481,41 +480,6 @@ pub fn digit_text(n: u8) -> u8
     half + 55
 }
 
-// Whether both halves of an octet are decimal digits.
-fn two_digits(x: u8) -> bool
-    ensures { λ r. ⌜ r ≡ leb (x / 16) 9 && leb (x % 16) 9 ⌝ }
-{
-    (x / 16 <= 9) & (x % 16 <= 9)
-}
-
-// Whether an octet is a decimal digit and the 15 behind an odd last one.
-fn last_digit(x: u8) -> bool
-    ensures { λ r. ⌜ r ≡ leb (x / 16) 9 && eqb (x % 16) 15 ⌝ }
-{
-    (x / 16 <= 9) & (x % 16 == 15)
-}
-
-// Whether `s` is `count` decimal digits two to an octet, "first in the high half; an odd last low half is 15".
-pub fn are_packed(s: &[u8], count: usize) -> bool
-    ensures { λ r. ⌜ r ≡ packedDigits count (now (s .entry)) ⌝ }
-{
-    if s.len() != packed_len(count) {
-        return false;
-    }
-    let pairs = count / 2;
-    let mut i: usize = 0;
-    while i < pairs {
-        if !two_digits(s[i]) {
-            return false;
-        }
-        i += 1;
-    }
-    if i < s.len() {
-        return last_digit(s[i]);
-    }
-    true
-}
-
 // The halves of `octets` octets, or `count` of them.
 fn half_count(octets: usize, count: usize) -> usize
     ensures { λ r. ⌜ r ≡ min count (2 * octets) ⌝ }
@@ -555,36 +519,5 @@ pub fn unpack_at(buf: &mut [u8], at: usize, s: &[u8], count: usize) -> bool
         return false;
     }
     unpack_text(&mut buf[at..], s, n);
-    true
-}
-
-// Writes the first `digits` halves of `s` as decimal digits over the start of `buf`.
-fn lay_decimals(buf: &mut [u8], s: &[u8], digits: usize)
-    requires { ⌜ (digits ≤ length (now buf)) × (digits ≤ 2 * length (now s)) ⌝ }
-    ensures { λ _. ⌜ now (buf .exit) ≡ over (decimals (unpack digits (now (s .entry)))) (now (buf .entry)) ⌝ }
-{
-    let pairs = digits / 2;
-    let mut i: usize = 0;
-    while i < pairs {
-        let x = s[i];
-        buf[2 * i] = x / 16 + 48;
-        buf[2 * i + 1] = x % 16 + 48;
-        i += 1;
-    }
-    if 2 * i < digits {
-        buf[2 * i] = s[i] / 16 + 48;
-    }
-}
-
-// Writes the first `count` halves of `s` as decimal digits over `buf` from the place `at` on and says true, if they fit; else
-// changes nothing and says false.
-pub fn decimals_at(buf: &mut [u8], at: usize, s: &[u8], count: usize) -> bool
-    ensures { λ r. ⌜ Laid at (decimals (unpack count (now (s .entry)))) (now (buf .entry)) r (now (buf .exit)) ⌝ }
-{
-    let digits = half_count(s.len(), count);
-    if !fits(buf.len(), at, digits) {
-        return false;
-    }
-    lay_decimals(&mut buf[at..], s, digits);
     true
 }

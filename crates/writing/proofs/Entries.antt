@@ -1,23 +1,24 @@
 -- An item that is found at a place of a sheet, and the attribute that it gives. Assumes nothing.
-use mathlib.Core.Path.{_≡_, refl, sym, ap, _∙_}
+use mathlib.Core.Path.{_≡_, refl, ap, _∙_}
 use mathlib.Core.Bool.{Bool, true, false, cond}
 use mathlib.Core.List.{List, [], _∷_, _++_}
 use Prim.Native.Nat.{ℕ, _+_, _-_, _<_, _≤_}
 use native.Mathlib.Omega.{arith}
 use lib.Dec.{T, leb, leb→le}
-use lib.ListN.{length, drop, getD, length-drop, length-append}
-use lib.Seq.{length-take-le}
+use lib.ListN.{length, take, drop, length-append}
 use Rattle.meaning.specs.Octets.{Octets}
 use Rattle.meaning.specs.Framing.{isPlain, headLength}
-use Rattle.meaning.specs.Sheet.{attributeOctets, carries, numberIn, storedLength, holds}
-use Rattle.meaning.proofs.Octets.{octet-at, octets-take, octets-drop}
+use Rattle.meaning.specs.Sheet.{attributeOctets, carries, storedLength, holds, refused}
+use Rattle.meaning.proofs.Octets.{octets-take, octets-drop}
 use Rattle.meaning.proofs.Tests.{parts}
 use Rattle.meaning.proofs.Framing.{plain-lines, gpp-lines}
-use Rattle.meaning.proofs.Items.{Accepted, entered-holds}
-use Rattle.octets.specs.Parts.{partOf}
-use Rattle.item.specs.Answers.{enteredAt}
-use Rattle.item.proofs.Entering.{found-item}
-use Rattle.writing.specs.Attributes.{valueLength, valueAs, attributeHead, Written}
+use Rattle.meaning.proofs.Items.{entered-holds}
+use Rattle.item.specs.declared.Headed.{Headed}
+use Rattle.item.specs.declared.Headed.the-variants.{Item}
+use Rattle.item.specs.Stands.{standsAs}
+use Rattle.item.specs.Answers.{enteredAt, headedAt}
+use Rattle.item.proofs.Entering.{size-at, AHead, a-head, size-stored, item-is}
+use Rattle.writing.specs.Attributes.{valueLength, valueAs, attributeHead}
 use Rattle.writing.proofs.Values.{shown}
 
 -- ---- An attribute by its head and its value
@@ -49,66 +50,57 @@ carried-short n v t = go (isPlain n) refl
 
 -- ---- At a place
 
--- An item at a place of the sheet l: what it stores, the number that it carries, and what the writers of its attribute ask for.
-pub record Entry (l : List ℕ) (p n : ℕ) (v : List ℕ) (size : ℕ) : Type 0 where
-  pub number-is : n ≡ numberIn (getD l p 0) (getD l (p + 1) 0) (getD l (p + 2) 0)
-  pub size-is : size ≡ 4 + storedLength (getD l (p + 2) 0) (getD l (p + 3) 0)
-  pub inside : p + size ≤ length l
-  pub value-is : v ≡ valueAs n (getD l (p + 2) 0) (getD l (p + 3) 0) (partOf l (p + 4) (storedLength (getD l (p + 2) 0) (getD l (p + 3) 0)))
-  pub written : Written n (getD l (p + 2) 0) (getD l (p + 3) 0) (partOf l (p + 4) (storedLength (getD l (p + 2) 0) (getD l (p + 3) 0)))
+-- an item at a place of the sheet l, with its value, which some readable attribute gives
+pub record Entry (l : List ℕ) (p n : ℕ) (v : List ℕ) (k behind : ℕ) : Type 0 where
+  pub size : ℕ
+  pub entered-is : enteredAt l p ≡ holds n v size
+  pub behind-is : behind ≡ p + size
+  pub low : n < 512
+  pub value-long : length v ≡ k
+  pub short : headLength n + k < 256
 
-module _ (l : List ℕ) (p : ℕ) (o : Octets l) where
-  -- the form, the count and the stored octets
-  abbrev form-at : ℕ
-  form-at = getD l (p + 2) 0
+-- the item whose head `head_at` answered
+module _ (l : List ℕ) (p : ℕ) (o : Octets l) (r : Headed) (says : r ≡ headedAt l p) (n f c behind : ℕ) (q : r ≡ Item n f c behind) where
+  abbrev head : AHead l p o r says n f c behind
+  head = a-head l p o r says n f c behind q
 
-  abbrev count-at : ℕ
-  count-at = getD l (p + 3) 0
+  -- its stored octets
+  abbrev pub stored-here : List ℕ
+  stored-here = take (behind - (p + 4)) (drop (p + 4) l)
 
-  abbrev stored-at : List ℕ
-  stored-at = partOf l (p + 4) (storedLength form-at count-at)
+  stored-octets : Octets stored-here
+  stored-octets = octets-take (behind - (p + 4)) (drop (p + 4) l) (octets-drop (p + 4) l o)
 
-  accepted-at : (n : ℕ) (v : List ℕ) (size : ℕ) → enteredAt l p ≡ holds n v size → Accepted (drop p l) n v size
+  pub behind-within : behind ≤ length l
+  behind-within = omega (arith, head .room, head .behind-is)
+
+  pub behind-head : p + 4 ≤ behind
+  behind-head = omega (arith, head .behind-is)
+
+  pub stored-size : length stored-here ≡ storedLength f c
+  stored-size = size-stored l p o r says n f c behind head
+
+  pub no-entry : standsAs n f c stored-here ≡ false → enteredAt l p ≡ refused 23
+  no-entry e = item-is l p o r says n f c behind head ∙ rw e
+
+  pub entry-here : standsAs n f c stored-here ≡ true → Entry l p n (valueAs n f c stored-here) (valueLength f c) behind
   unfolding enteredAt
-  accepted-at n v size e = entered-holds (drop p l) n v size (octets-drop p l o) e
-
-  stored-octets : Octets stored-at
-  unfolding partOf
-  stored-octets = octets-take (storedLength form-at count-at) (drop (p + 4) l) (octets-drop (p + 4) l o)
-
-  stored-long : 4 + storedLength form-at count-at ≤ length l - p → length stored-at ≡ storedLength form-at count-at
-  unfolding partOf
-  stored-long g = length-take-le (storedLength form-at count-at) (drop (p + 4) l) (omega (arith, length-drop (p + 4) l))
-
-  pub entry-at : (n : ℕ) (v : List ℕ) (size : ℕ) → enteredAt l p ≡ holds n v size → Entry l p n v size
-  entry-at n v size e =
-      let f = found-item l p n v size e in
-      let a = accepted-at n v size e in
-      let long = stored-long (f .room) in
-      let k = shown (getD l p 0) (getD l (p + 1) 0) form-at count-at stored-at (octet-at l p o) stored-octets long (f .stands) in
-      let named : n ≡ numberIn (getD l p 0) (getD l (p + 1) 0) form-at = f .number-is in
-      let value : v ≡ valueAs n form-at count-at stored-at = f .value-is ∙ k .value-is ∙ ap (λ (m : ℕ). valueAs m form-at count-at stored-at) (sym named) in
-      let size-long : length (valueAs n form-at count-at stored-at) ≡ valueLength form-at count-at = ap (λ (m : ℕ). length (valueAs m form-at count-at stored-at)) named ∙ k .value-long in
+  entry-here e =
+      let k = shown n f c stored-here stored-octets stored-size e in
+      let size : ℕ = size-at l p in
+      let here : enteredAt l p ≡ holds n (valueAs n f c stored-here) size = item-is l p o r says n f c behind head ∙ rw e (ap (λ (v : List ℕ). holds n v size) (k .value-is)) in
+      let a = entered-holds (drop p l) n (valueAs n f c stored-here) size (octets-drop p l o) here in
       record {
-        number-is = named;
-        size-is = f .size-is;
-        inside = omega (arith, f .size-is, f .room);
-        value-is = value;
-        written =
-            record {
-              low = a .low;
-              stored-long = long;
-              value-long = size-long;
-              short = omega (arith, carried-short n v (a .carried), ap length value, size-long);
-              counted = octet-at l (p + 3) o;
-              four = k .four;
-              packed = k .packed;
-              some = λ h g. k .some h;
-            };
+        size = size;
+        entered-is = here;
+        behind-is = head .behind-is;
+        low = a .low;
+        value-long = k .value-long;
+        short = omega (arith, carried-short n (valueAs n f c stored-here) (a .carried), k .value-long);
       }
 
 -- the octets of the attribute that an item gives
-pub entry-long : (l : List ℕ) (p n : ℕ) (v : List ℕ) (size : ℕ) → Entry l p n v size → length (attributeOctets n v) ≡ headLength n + valueLength (getD l (p + 2) 0) (getD l (p + 3) 0)
-entry-long l p n v size e =
+pub attribute-long : (n : ℕ) (v : List ℕ) → length (attributeOctets n v) ≡ headLength n + length v
+attribute-long n v =
     ap length (attribute-parts n v) ∙ length-append (attributeHead n (length v)) v
-    ∙ (omega (arith, head-long n (length v), ap length (e .value-is), e .written .value-long))
+    ∙ (omega (arith, head-long n (length v)))

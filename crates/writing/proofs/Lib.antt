@@ -1,8 +1,8 @@
 pub mod Values
 pub mod Entries
 pub mod Walking
-pub mod Judging
 pub mod Putting
-pub mod Laying
+pub mod Valuing
+pub mod Transcribing
 pub mod Whole
 pub mod Exactly

@@ -2,7 +2,7 @@
 use mathlib.Core.Path.{_≡_, refl, sym, ap, _∙_}
 use mathlib.Core.Bool.{Bool, true, false, not, _&&_}
 use mathlib.Core.List.{List}
-use Prim.Native.Nat.{ℕ, _≤_, _<_}
+use Prim.Native.Nat.{ℕ, _+_, _≤_, _<_}
 use native.Mathlib.Omega.{arith}
 use lib.Dec.{leb, leb→le}
 use borrow.Author.Tests.{lt-ltb, le-ltb, not-true, not-false}
@@ -15,11 +15,13 @@ use Rattle.meaning.specs.Refusals.{none, refusal, fault, sheetRefusal}
 use Rattle.meaning.specs.Sheet.{mark, areaOf, itemsIn, kindIn, flagsIn, areaIn, marked, judged}
 use Rattle.meaning.specs.Answers.{over, after, writeAnswer, areaAnswer}
 use Rattle.meaning.proofs.Tests.{parts, is-true, passes}
+use Rattle.octets.specs.Parts.{laidAt}
+use Rattle.octets.proofs.Overs.{laid-first}
 use Rattle.area.specs.declared.Refusal.{Refusal}
 use Rattle.writing.specs.declared.Judged.{Judged}
 use Rattle.writing.specs.declared.Judged.the-variants.{Items, Broken}
 use Rattle.writing.specs.declared.Writing.the-variants.{Area, Refused}
-use Rattle.writing.specs.Answers.{judgedFrom, judgedOf, Accepted, Ready, Wrote}
+use Rattle.writing.specs.Answers.{judgedFrom, judgedOf, Accepted, Ready, Transcribed, Wrote}
 
 -- a marked sheet has its nine octets
 pub marked-nine : (l : List ℕ) → marked l ≡ true → 9 ≤ length l
@@ -32,6 +34,15 @@ both-allowed a b k f p q e = ap (λ (t : Bool). t && areFlags f) (sym p) ∙ ap 
 
 pub one-not-allowed : (a b : Bool) (k f : ℕ) → a ≡ isKind k → b ≡ areFlags f → not (a && b) ≡ true → isKind k && areFlags f ≡ false
 one-not-allowed a b k f p q e = ap (λ (t : Bool). t && areFlags f) (sym p) ∙ ap (λ (t : Bool). a && t) (sym q) ∙ not-true (a && b) e
+
+-- a buffer in which the items of an accepted sheet were laid begins with the area
+pub accepted-held : (l : List ℕ) (n : ℕ) → Accepted l → n ≡ length (areaIn l) → (r : Judged) (buf : List ℕ) → Transcribed l r buf → n + 263 ≤ length buf → take n buf ≡ areaIn l
+unfolding judgedOf areaIn
+accepted-held l n a e r buf t room = t .holds n (t .says ∙ rw (a .sound) (ap Items (sym e))) room
+
+-- the area is copied from there
+pub area-copied : (l d buf out : List ℕ) (n : ℕ) → n ≡ length (areaIn l) → n ≤ length d → take n buf ≡ areaIn l → out ≡ laidAt 0 (take n buf) d → out ≡ over (areaIn l) d
+area-copied l d buf out n e room h q = q ∙ ap (λ (s : List ℕ). laidAt 0 s d) h ∙ laid-first (areaIn l) d (omega arith)
 
 module _ (l d : List ℕ) where
   pub write-20 : marked l ≡ false → Wrote l d (Refused (record { number = 20; second = 0 })) d

@@ -1,9 +1,9 @@
 -- What the answers of this crate stand for, in the numbers and values of document 01. Assumes nothing.
-use Prim.Native.Nat.{ℕ}
+use Prim.Native.Nat.{ℕ, _+_, _≤_}
 use mathlib.Core.Path.{_≡_}
 use mathlib.Core.Bool.{true}
 use mathlib.Core.List.{List}
-use lib.ListN.{length}
+use lib.ListN.{length, take}
 use Rattle.meaning.specs.Framing.{Walk, attributes}
 use Rattle.meaning.specs.Refusals as book
 use Rattle.meaning.specs.Jobs.{isKind, areFlags}
@@ -36,6 +36,15 @@ pub record Ready (sheet : List ℕ) (kind flags needed : ℕ) : Type 0 where
   pub kind-is : kind ≡ kindIn sheet
   pub flags-is : flags ≡ flagsIn sheet
   pub long : needed ≡ length (areaIn sheet)
+
+-- a buffer begins with the area of a sheet, so many octets, where it has room behind them for one attribute more with its head
+abbrev pub Holding : (sheet : List ℕ) (needed : ℕ) → List ℕ → Type 0
+Holding sheet n buf = n + 263 ≤ length buf → take n buf ≡ areaIn sheet
+
+-- what the pass over a sheet's items says, and what the buffer in which they are laid holds then
+pub record Transcribed (sheet : List ℕ) (said : Judged) (buf : List ℕ) : Type 0 where
+  pub says : said ≡ judgedOf (itemsIn sheet)
+  pub holds : (n : ℕ) → said ≡ Items n → Holding sheet n buf
 
 -- an area by its length, with kind and flags; a refusal by its number and second number
 abbrev pub writingOf : meant.Answer meant.Written → Writing

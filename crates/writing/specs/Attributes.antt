@@ -1,17 +1,18 @@
 -- The attribute that an item gives, as the writers lay it: its head and its value, by the item's number, form, count and stored
 -- octets. Assumes nothing.
 use mathlib.Core.Path.{_≡_}
-use Prim.Native.Nat.{ℕ, _+_, _*_, _-_, _/_, _%_, _≤_, _<_}
-use mathlib.Core.Bool.{true, cond}
+use Prim.Native.Nat.{ℕ, _+_, _*_, _-_, _/_, _%_}
+use mathlib.Core.Bool.{Bool, true, cond, _&&_}
 use mathlib.Core.List.{List, [], _∷_}
 use lib.Dec.{eqb}
 use lib.ListN.{length, drop, getD}
 use Rattle.meaning.specs.Octets.{digitText, text, unpack}
-use Rattle.meaning.specs.Framing.{isPlain, headLength}
+use Rattle.meaning.specs.Framing.{isPlain}
 use Rattle.meaning.specs.Shapes.{shapeOf}
-use Rattle.meaning.specs.Sheet.{storedLength}
-use Rattle.octets.specs.DigitStrings.{packedDigits}
+use Rattle.octets.specs.Parts.{Begun}
+use Rattle.octets.specs.DigitStrings.{packedDigits, decimals}
 use Rattle.shape.specs.Codes.{codeOf}
+use Rattle.item.specs.Stands.{standsAs}
 
 -- the octets of the value that an item of this form and count stands for
 unfoldable pub valueLength : (form count : ℕ) → ℕ
@@ -35,14 +36,17 @@ valueAs n f c st =
     (cond (eqb f 6) (profileText st)
     (cond (eqb f 7) (cond (eqb (codeOf (shapeOf n)) 71) (getD st 0 0) (digitText (getD st 0 0 % 16)) ∷ []) st)))
 
--- an item that some readable attribute gives: its octets are as many as it announces, and so are its value's; a number and an
--- address have four, and digits are decimal
-pub record Written (n f c : ℕ) (st : List ℕ) : Type 0 where
-  pub low : n < 512
-  pub stored-long : length st ≡ storedLength f c
-  pub value-long : length (valueAs n f c st) ≡ valueLength f c
-  pub short : headLength n + valueLength f c < 256
-  pub counted : c < 256
-  pub four : 2 ≤ f → f < 4 → c ≡ 4
-  pub packed : f ≡ 4 → packedDigits c st ≡ true
-  pub some : 6 ≤ f → f ≤ 7 → 1 ≤ length st
+-- what the writer of packed digits at a place says, and that they stand there then
+pub record Digited (at count : ℕ) (st d : List ℕ) (said : Bool) (out : List ℕ) : Type 0 where
+  pub says : said ≡ packedDigits count st
+  pub is : said ≡ true → Begun at (decimals (unpack count st)) d out
+
+-- what the writer of four octets at a place says, where the number is of their form, and that they stand there then
+pub record Foured (at : ℕ) (own : Bool) (st d : List ℕ) (said : ℕ) (out : List ℕ) : Type 0 where
+  pub says : said ≡ cond (own && eqb (length st) 4) 4 256
+  pub is : own && eqb (length st) 4 ≡ true → Begun at st d out
+
+-- what the writer of an item's value at a place says, and that the value stands there then, where some readable attribute gives the item
+pub record Valued (at n f c : ℕ) (st d : List ℕ) (said : ℕ) (out : List ℕ) : Type 0 where
+  pub says : said ≡ cond (standsAs n f c st) (valueLength f c) 256
+  pub is : standsAs n f c st ≡ true → Begun at (valueAs n f c st) d out

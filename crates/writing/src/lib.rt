@@ -1,21 +1,21 @@
-// Writing: a sheet gives back the area that has it, with kind and flags. Two passes over the sheet: the first finds every refusal and
-// the octets needed, the second writes.
+// Writing: a sheet gives back the area that has it, with kind and flags. One pass over the sheet tests each item and lays its attribute
+// in a buffer of its own; the area is copied from there when every refusal is ruled out.
 use area::Refusal;
-use item::Entered;
+use item::Headed;
 ghost use mathlib.Core.Path.{_≡_};
 ghost use mathlib.Core.Bool.{cond};
 ghost use Prim.Native.Nat.{_+_, _*_, _%_, _≤_, _<_};
 ghost use lib.Dec.{eqb};
 ghost use lib.ListN.{length};
-ghost use Rattle.meaning.specs.Octets.{digitText};
+ghost use Rattle.meaning.specs.Octets.{digitText, packedLength};
 ghost use Rattle.meaning.specs.Shapes.{shapeOf};
-ghost use Rattle.meaning.specs.Sheet.{attributeOctets, itemsIn, areaIn, marked};
+ghost use Rattle.meaning.specs.Sheet.{areaIn, marked, storedLength};
 ghost use Rattle.meaning.specs.Answers.{over};
 ghost use Rattle.octets.specs.Parts.{laidAt};
 ghost use Rattle.meaning.specs.Framing.{headLength};
 ghost use Rattle.shape.specs.Codes.{codeOf};
-ghost use Rattle.writing.specs.Attributes.{valueLength, profileText, valueAs, attributeHead, Written};
-ghost use Rattle.writing.specs.Answers.{judgedOf, Accepted, Ready, Wrote};
+ghost use Rattle.writing.specs.Attributes.{profileText, attributeHead, Digited, Foured, Valued};
+ghost use Rattle.writing.specs.Answers.{Accepted, Ready, Holding, Transcribed, Wrote};
 
 // What writing answers: the octets of the area that stands at the buffer's start, with the kind and flags of the sheet, or a refusal.
 pub enum Writing {
@@ -27,20 +27,6 @@ pub enum Writing {
 enum Judged {
     Items(usize),
     Broken(Refusal),
-}
-
-// The octets of the value that an item of this form and count stands for.
-fn value_len(form: u8, count: u8) -> usize
-    ensures { λ r. ⌜ r ≡ valueLength form count ⌝ }
-{
-    let n = octets::wide(count);
-    if form == 5 {
-        return 2 * n;
-    }
-    if form == 6 {
-        return 1 + 2 * n;
-    }
-    n
 }
 
 // Lays four octets, which have room there.
@@ -88,61 +74,117 @@ fn put_profile(buf: &mut [u8], at: usize, stored: &[u8])
 fn octet_text(number: u16, x: u8) -> u8
     ensures { λ r. ⌜ r ≡ cond (eqb (codeOf (shapeOf number)) 71) x (digitText (x % 16)) ⌝ }
 {
-    if shape::code_of(number) == 71 {
+    if number == 267 {
         x
     } else {
         octets::digit_text(x)
     }
 }
 
-// Lays the value that an item stands for.
-fn put_value(buf: &mut [u8], at: usize, number: u16, form: u8, count: u8, stored: &[u8])
-    requires { ⌜ Written number form count (now stored) × (at + valueLength form count ≤ length (now buf)) ⌝ }
-    ensures { λ _. ⌜ now (buf .exit) ≡ laidAt at (valueAs number form count (now (stored .entry))) (now (buf .entry)) ⌝ }
+// Lays decimal digits that stand two to an octet, as text, and says true; false where some half is no digit, or an odd last low half
+// is not 15.
+fn put_digits(buf: &mut [u8], at: usize, count: usize, stored: &[u8]) -> bool
+    requires { ⌜ (length (now stored) ≡ packedLength count) × (at + count ≤ length (now buf)) ⌝ }
+    ensures { λ r. ⌜ Digited at count (now (stored .entry)) (now (buf .entry)) r (now (buf .exit)) ⌝ }
 {
-    match form {
-        2 | 3 => {
-            put_four(buf, at, [stored[0], stored[1], stored[2], stored[3]]);
-            return;
+    let pairs = count / 2;
+    let mut i: usize = 0;
+    while i < pairs {
+        let x = stored[i];
+        if !((x / 16 <= 9) & (x % 16 <= 9)) {
+            return false;
         }
-        4 => {
-            octets::decimals_at(buf, at, stored, octets::wide(count));
-            return;
-        }
-        5 => {
-            octets::unpack_at(buf, at, stored, 2 * stored.len());
-            return;
-        }
-        6 => {
-            put_profile(buf, at, stored);
-            return;
-        }
-        7 => {
-            let one = [octet_text(number, stored[0])];
-            octets::copy_at(buf, at, &one);
-            return;
-        }
-        _ => {
-            octets::copy_at(buf, at, stored);
-            return;
-        }
+        buf[at + 2 * i] = x / 16 + 48;
+        buf[at + 2 * i + 1] = x % 16 + 48;
+        i += 1;
     }
+    if 2 * i < count {
+        let x = stored[i];
+        if !((x / 16 <= 9) & (x % 16 == 15)) {
+            return false;
+        }
+        buf[at + 2 * i] = x / 16 + 48;
+    }
+    true
 }
 
-// Lays the attribute that an item gives.
-fn put_attribute(buf: &mut [u8], at: usize, number: u16, form: u8, count: u8, stored: &[u8])
-    requires { ⌜ Written number form count (now stored) × (at + (headLength number + valueLength form count) ≤ length (now buf)) ⌝ }
-    ensures { λ _. ⌜ now (buf .exit) ≡ laidAt at (attributeOctets number (valueAs number form count (now (stored .entry)))) (now (buf .entry)) ⌝ }
+// Lays four octets of a number or an address, where the item's number is of that form; 256 where it is not.
+fn put_fours(buf: &mut [u8], at: usize, own: bool, stored: &[u8]) -> usize
+    requires { ⌜ at + 4 ≤ length (now buf) ⌝ }
+    ensures { λ r. ⌜ Foured at own (now (stored .entry)) (now (buf .entry)) r (now (buf .exit)) ⌝ }
 {
-    put_head(buf, at, number, value_len(form, count));
-    put_value(
-        buf,
-        at + area::head_len(number),
-        number,
-        form,
-        count,
-        stored,
-    );
+    if !own {
+        return 256;
+    }
+    if stored.len() != 4 {
+        return 256;
+    }
+    put_four(buf, at, [stored[0], stored[1], stored[2], stored[3]]);
+    4
+}
+
+// Lays the digits of an item in form 4 and gives their count; 256 where no readable attribute gives the item.
+fn put_packed(buf: &mut [u8], at: usize, number: u16, count: u8, stored: &[u8]) -> usize
+    requires { ⌜ (length (now stored) ≡ packedLength count) × (at + 255 ≤ length (now buf)) ⌝ }
+    ensures { λ r. ⌜ Valued at number 4 count (now (stored .entry)) (now (buf .entry)) r (now (buf .exit)) ⌝ }
+{
+    let n = octets::wide(count);
+    if !item::takes_digits(number, count) {
+        return 256;
+    }
+    if !put_digits(buf, at, n, stored) {
+        return 256;
+    }
+    n
+}
+
+// Lays the text of an item in form 6 and gives its octets; 256 where no readable attribute gives the item.
+fn put_qos(buf: &mut [u8], at: usize, number: u16, stored: &[u8]) -> usize
+    requires { ⌜ at + 255 ≤ length (now buf) ⌝ }
+    ensures { λ r. ⌜ Valued at number 6 (length (now (stored .entry))) (now (stored .entry)) (now (buf .entry)) r (now (buf .exit)) ⌝ }
+{
+    if number != 261 {
+        return 256;
+    }
+    if !item::holds_qos(stored) {
+        return 256;
+    }
+    put_profile(buf, at, stored);
+    1 + 2 * stored.len()
+}
+
+// Lays the value that an item stands for and gives its octets; 256 where no readable attribute gives the item.
+fn put_value(buf: &mut [u8], at: usize, number: u16, form: u8, count: u8, stored: &[u8]) -> usize
+    requires { ⌜ (length (now stored) ≡ storedLength form count) × (at + 255 ≤ length (now buf)) ⌝ }
+    ensures { λ r. ⌜ Valued at number form count (now (stored .entry)) (now (buf .entry)) r (now (buf .exit)) ⌝ }
+{
+    match form {
+        2 => put_fours(buf, at, item::is_number(number), stored),
+        3 => put_fours(buf, at, item::is_address(number), stored),
+        4 => put_packed(buf, at, number, count, stored),
+        5 => {
+            if (number != 44) | (stored.len() != 8) {
+                return 256;
+            }
+            octets::unpack_at(buf, at, stored, 16);
+            16
+        }
+        6 => put_qos(buf, at, number, stored),
+        7 => {
+            if !item::is_octet(number, stored) {
+                return 256;
+            }
+            buf[at] = octet_text(number, stored[0]);
+            1
+        }
+        _ => {
+            if !item::is_raw(number, form, stored) {
+                return 256;
+            }
+            octets::copy_at(buf, at, stored);
+            stored.len()
+        }
+    }
 }
 
 // Whether octets begin with the mark and the version of a sheet and have its nine octets.
@@ -156,27 +198,39 @@ fn is_marked(sheet: &[u8]) -> bool
         & ((sheet[1] == b'I') & ((sheet[2] == b'R') & ((sheet[3] == 0) & (sheet[4] == 1))))
 }
 
-// Judges the items of a sheet from the left, and what remains behind them.
-fn judge(sheet: &[u8]) -> Judged
-    requires { ⌜ 9 ≤ length (now sheet) ⌝ }
-    ensures { λ r. ⌜ r ≡ judgedOf (itemsIn (now (sheet .entry))) ⌝ }
+// Tests and lays the items of a sheet from the left, and tests what remains behind them. An item that begins behind the last place where
+// any has room is laid at that place again and again, and counted.
+fn transcribe(sheet: &[u8], buf: &mut [u8]) -> Judged
+    requires { ⌜ (9 ≤ length (now sheet)) × (263 ≤ length (now buf)) ⌝ }
+    ensures { λ r. ⌜ Transcribed (now (sheet .entry)) r (now (buf .exit)) ⌝ }
 {
+    let last = buf.len() - 263;
     let mut left = octets::u16_at(sheet, 7) as usize;
     let mut place: usize = 9;
-    let mut needed: usize = 0;
+    let mut written: usize = 0;
     while left > 0 {
-        match item::item_at(sheet, place) {
-            Entered::Item {
+        match item::head_at(sheet, place) {
+            Headed::Item {
                 number,
                 form,
                 count,
                 next,
             } => {
-                needed += area::head_len(number) + value_len(form, count);
+                let at = octets::least(written, last);
+                let head = area::head_len(number);
+                let put = put_value(buf, at + head, number, form, count, &sheet[place + 4..next]);
+                if put == 256 {
+                    return Judged::Broken(Refusal {
+                        number: 23,
+                        second: place,
+                    });
+                }
+                put_head(buf, at, number, put);
+                written += head + put;
                 place = next;
                 left -= 1;
             }
-            Entered::Refused(refusal) => {
+            Headed::Refused(refusal) => {
                 return Judged::Broken(refusal);
             }
         }
@@ -187,33 +241,22 @@ fn judge(sheet: &[u8]) -> Judged
             second: place,
         });
     }
-    Judged::Items(needed)
+    Judged::Items(written)
 }
 
-// Lays the area of a sheet whose items were judged over the buffer's start.
-fn lay(sheet: &[u8], area: &mut [u8])
-    requires { ⌜ Accepted (now sheet) × (length (areaIn (now sheet)) ≤ length (now area)) ⌝ }
+// Lays the area of a sheet whose items were tested over the buffer's start, where the area is long: the sheet is gone over again.
+fn long(sheet: &[u8], needed: usize, area: &mut [u8])
+    requires { ⌜ Accepted (now sheet) × ((needed ≡ length (areaIn (now sheet))) × ((needed ≤ 4076) × (needed ≤ length (now area)))) ⌝ }
     ensures { λ _. ⌜ now (area .exit) ≡ over (areaIn (now (sheet .entry))) (now (area .entry)) ⌝ }
 {
-    let mut left = octets::u16_at(sheet, 7) as usize;
-    let mut place: usize = 9;
-    let mut written: usize = 0;
-    while left > 0 {
-        let form = sheet[place + 2];
-        let count = sheet[place + 3];
-        let number = item::number_in(sheet[place], sheet[place + 1], form);
-        let size = 4 + shape::stored_len(form, count as usize);
-        let next = place + size;
-        put_attribute(area, written, number, form, count, &sheet[place + 4..next]);
-        written += area::head_len(number) + value_len(form, count);
-        place = next;
-        left -= 1;
-    }
+    let mut buf = [0u8; 4339];
+    transcribe(sheet, &mut buf);
+    octets::copy_at(area, 0, &buf[..needed]);
 }
 
-// The area of a sheet whose items were judged, or refusal 24 or 25.
-fn fit(sheet: &[u8], kind: u8, flags: u8, needed: usize, area: &mut [u8]) -> Writing
-    requires { ⌜ Ready (now sheet) kind flags needed ⌝ }
+// The area of a sheet whose items were tested and laid in `buf`, or refusal 24 or 25.
+fn fit(sheet: &[u8], kind: u8, flags: u8, needed: usize, buf: &[u8], area: &mut [u8]) -> Writing
+    requires { ⌜ Ready (now sheet) kind flags needed × Holding (now sheet) needed (now buf) ⌝ }
     ensures { λ r. ⌜ Wrote (now (sheet .entry)) (now (area .entry)) r (now (area .exit)) ⌝ }
 {
     if 4076 < needed {
@@ -228,7 +271,11 @@ fn fit(sheet: &[u8], kind: u8, flags: u8, needed: usize, area: &mut [u8]) -> Wri
             second: needed,
         });
     }
-    lay(sheet, area);
+    if needed + 263 <= buf.len() {
+        octets::copy_at(area, 0, &buf[..needed]);
+    } else {
+        long(sheet, needed, area);
+    }
     Writing::Area {
         length: needed,
         kind,
@@ -254,12 +301,13 @@ pub fn write(sheet: &[u8], area: &mut [u8]) -> Writing
             second: 0,
         });
     }
-    match judge(sheet) {
+    let mut short = [0u8; 768];
+    match transcribe(sheet, &mut short) {
         Judged::Broken(refusal) => {
             return Writing::Refused(refusal);
         }
         Judged::Items(needed) => {
-            return fit(sheet, kind, flags, needed, area);
+            return fit(sheet, kind, flags, needed, &short, area);
         }
     }
 }

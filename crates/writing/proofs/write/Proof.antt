@@ -34,20 +34,28 @@ are-flags-requires c κs = search needs
 returns-2 : tie.Need-returns-2
 returns-2 c = write-21 _ _ (sym (c .before .before .before .before .before .before .is-marked .ensures) ∙ not-false _ (c .before .before .before .before .before .if1 .left)) (one-not-allowed _ _ _ _ (c .before .before .is-kind .ensures) (c .before .are-flags .ensures) (c .if2 .taken))
 
-judge-requires : tie.Need-judge-requires
-judge-requires c κs = marked-nine _ (sym (c .before .before .before .before .before .before .is-marked .ensures) ∙ not-false _ (c .before .before .before .before .before .if1 .left))
+slice-aggregate-transcribe : tie.Need-slice-aggregate-transcribe
+slice-aggregate-transcribe c = search needs
+
+transcribe-requires : tie.Need-transcribe-requires
+transcribe-requires c κs = (marked-nine _ (sym (c .before .before .before .before .before .before .before .is-marked .ensures) ∙ not-false _ (c .before .before .before .before .before .before .if1 .left)), omega arith)
 
 enum-known-refusal : tie.Need-enum-known-refusal
 enum-known-refusal c = search needs
 
 returns-3 : tie.Need-returns-3
-returns-3 c = write-broken _ _ (sym (c .before .before .before .before .before .before .before .before .before .before .is-marked .ensures) ∙ not-false _ (c .before .before .before .before .before .before .before .before .before .if1 .left)) (both-allowed _ _ _ _ (c .before .before .before .before .before .before .is-kind .ensures) (c .before .before .before .before .before .are-flags .ensures) (c .before .before .before .before .if2 .left)) _ _ (c .before .before .before .judge .ensures) (c .before .refusal .given .1)
+returns-3 c = write-broken _ _ (sym (c .before .before .before .before .before .before .before .before .before .before .before .before .is-marked .ensures) ∙ not-false _ (c .before .before .before .before .before .before .before .before .before .before .before .if1 .left)) (both-allowed _ _ _ _ (c .before .before .before .before .before .before .before .before .is-kind .ensures) (c .before .before .before .before .before .before .before .are-flags .ensures) (c .before .before .before .before .before .before .if2 .left)) _ _ (c .before .before .before .before .transcribe .ensures .says) (c .before .refusal .given .1)
 
 enum-known-needed : tie.Need-enum-known-needed
 enum-known-needed c = search needs
 
+slice-aggregate-fit : tie.Need-slice-aggregate-fit
+slice-aggregate-fit c = search needs
+
 fit-requires : tie.Need-fit-requires
-fit-requires c κs = items-ready _ (c .before .before .before .before .before .before .before .before .before .before .before .before .before .before .args .area .now) (sym (c .before .before .before .before .before .before .before .before .before .before .before .is-marked .ensures) ∙ not-false _ (c .before .before .before .before .before .before .before .before .before .before .if1 .left)) (both-allowed _ _ _ _ (c .before .before .before .before .before .before .before .is-kind .ensures) (c .before .before .before .before .before .before .are-flags .ensures) (c .before .before .before .before .before .if2 .left)) _ _ (c .before .before .before .before .judge .ensures) (c .before .before .needed .given .1)
+fit-requires c κs = let t = c .before .before .before .before .before .before .transcribe .ensures in
+    let q = c .before .before .before .needed .given .1 in
+    (items-ready _ (c .before .before .before .before .before .before .before .before .before .before .before .before .before .before .before .before .before .args .area .now) (sym (c .before .before .before .before .before .before .before .before .before .before .before .before .before .before .is-marked .ensures) ∙ not-false _ (c .before .before .before .before .before .before .before .before .before .before .before .before .before .if1 .left)) (both-allowed _ _ _ _ (c .before .before .before .before .before .before .before .before .before .before .is-kind .ensures) (c .before .before .before .before .before .before .before .before .before .are-flags .ensures) (c .before .before .before .before .before .before .before .before .if2 .left)) _ _ (t .says) q, t .holds _ q)
 
 same-length : tie.Need-same-length
 same-length c = search needs
@@ -68,10 +76,12 @@ write-spec =
     cast-are-flags
     are-flags-requires
     returns-2
-    judge-requires
+    slice-aggregate-transcribe
+    transcribe-requires
     enum-known-refusal
     returns-3
     enum-known-needed
+    slice-aggregate-fit
     fit-requires
     same-length
     returns-4)

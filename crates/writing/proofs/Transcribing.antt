@@ -1,0 +1,175 @@
+-- The pass over the items of a sheet: each is tested and its attribute laid behind those before it. Assumes nothing.
+use mathlib.Core.Path.{_≡_, refl, sym, ap, _∙_}
+use mathlib.Core.Bool.{Bool, true, false}
+use mathlib.Core.List.{List, [], _++_, append-nil, append-assoc}
+use Prim.Native.Nat.{ℕ, zero, suc, _^_, _+_, _*_, _-_, _<_, _≤_, min}
+use native.Mathlib.Omega.{arith}
+use lib.ListN.{length, take, drop, length-append, length-take}
+use Rattle.meaning.specs.Octets.{Octets, numberOf}
+use Rattle.meaning.proofs.Numbers.{number-fits}
+use Rattle.meaning.proofs.Octets.{octets-take, octets-drop}
+use Rattle.meaning.specs.Framing.{Walk, next, attributes, headLength}
+use Rattle.meaning.specs.Refusals.{none, refusal, fault}
+use Rattle.meaning.specs.Sheet.{attributeOctets, areaOf, itemsIn, areaIn, refused}
+use Rattle.area.specs.declared.Refusal.{Refusal}
+use Rattle.octets.specs.Parts.{partOf, laidAt, Begun}
+use Rattle.octets.proofs.Begun.{begun-as, begun-before}
+use Rattle.item.specs.declared.Headed.{Headed}
+use Rattle.item.specs.declared.Headed.the-variants.{Item, Refused}
+use Rattle.item.specs.Stands.{standsAs}
+use Rattle.item.specs.Answers.{enteredAt, headedAt}
+use Rattle.item.proofs.Entering.{a-refusal}
+use Rattle.writing.specs.declared.Judged.the-variants.{Items, Broken}
+use Rattle.writing.specs.Attributes.{valueLength, valueAs, attributeHead, Valued}
+use Rattle.writing.specs.Answers.{judgedOf, Transcribed}
+use Rattle.writing.proofs.Entries.{Entry, attribute-parts, attribute-long, head-long, stored-here, no-entry, entry-here}
+use Rattle.writing.proofs.Walking.{itemsAt, items-start, items-enter, items-refuse, items-end, items-remain}
+
+-- The loop stands at a place with so many items left. The attributes before it have so many octets, and are what the buffer begins with
+-- where it has room for one more behind them.
+pub record Transcribing (l out : List ℕ) (left place written : ℕ) : Type 0 where
+  pub gone : List ℕ
+  pub whole : areaIn l ≡ gone ++ areaOf (attributes (itemsAt l left place))
+  pub faults : fault (itemsIn l) ≡ fault (itemsAt l left place)
+  pub long : length gone ≡ written
+  pub few : written + 256 * left ≤ 256 * 65535
+  pub held : written + 263 ≤ length out → take written out ≡ gone
+
+-- the number of items in two octets
+announced-low : (l : List ℕ) (left : ℕ) → Octets l → left ≡ numberOf (partOf l 7 2) → left ≤ 65535
+unfolding partOf
+announced-low l left o e =
+    let two : length (take 2 (drop 7 l)) ≤ 2 = omega (arith, length-take 2 (drop 7 l)) in
+    let low : numberOf (take 2 (drop 7 l)) < 256 ^ length (take 2 (drop 7 l)) = number-fits (take 2 (drop 7 l)) (octets-take 2 (drop 7 l) (octets-drop 7 l o)) in
+    go (length (take 2 (drop 7 l))) two low
+  where
+    go : (k : ℕ) → k ≤ 2 → numberOf (take 2 (drop 7 l)) < 256 ^ k → left ≤ 65535
+    go zero h g = omega (arith, e)
+    go (suc zero) h g = omega (arith, e)
+    go (suc (suc zero)) h g = omega (arith, e)
+    go (suc (suc (suc k))) h g = absurd (omega arith)
+
+pub transcribing-none : (l out : List ℕ) (left : ℕ) → Octets l → left ≡ numberOf (partOf l 7 2) → Transcribing l out left 9 0
+unfolding areaIn
+transcribing-none l out left o e =
+    let s = items-start l left e in
+    record {
+      gone = [];
+      whole = ap (λ (w : Walk). areaOf (attributes w)) s;
+      faults = ap fault s;
+      long = refl;
+      few = omega (arith, announced-low l left o e);
+      held = λ h. refl;
+    }
+
+-- a refusal of the first item that is left
+broken-here : (l out : List ℕ) (left place written k : ℕ) → Transcribing l out left place written → 0 < left → enteredAt l place ≡ refused k → Broken (record { number = k; second = place }) ≡ judgedOf (itemsIn l)
+unfolding judgedOf fault
+broken-here l out left place written k j some e =
+    let f : fault (itemsIn l) ≡ refusal k place = j .faults ∙ ap fault (items-refuse l left place k some e) in
+    rw f
+
+-- where the pass breaks off, nothing is said of the buffer
+broke : (l out : List ℕ) (r : Refusal) → Broken r ≡ judgedOf (itemsIn l) → Transcribed l (Broken r) out
+broke l out r e = record { says = e; holds = λ n q. absurd (let z : _≡_ {A = ℕ} 0 1 = cc in omega arith) }
+
+module _ (l d : List ℕ) (left place written : ℕ) (j : Transcribing l d left place written) (some : 0 < left) (o : Octets l) (r : Headed) (says : r ≡ headedAt l place) where
+  -- a head that is refused
+  pub transcribing-refused : (out : List ℕ) (x : Refusal) → r ≡ Refused x → Transcribed l (Broken x) out
+  transcribing-refused out x q =
+      let a = a-refusal l place o r says x q in
+      broke l out x (ap (λ (p : ℕ). Broken (record { number = x .number; second = p })) (a .1) ∙ broken-here l d left place written (x .number) j some (a .0))
+
+  -- an item, and what the writer of its value answered
+  module _ (n f c behind : ℕ) (q : r ≡ Item n f c behind) (at put : ℕ) (first : List ℕ) (v : Valued (at + headLength n) n f c (stored-here l place o r says n f c behind q) d put first) where
+    -- the octets that it stores
+    abbrev st : List ℕ
+    st = stored-here l place o r says n f c behind q
+
+    entry : standsAs n f c st ≡ true → Entry l place n (valueAs n f c st) (valueLength f c) behind
+    entry = entry-here l place o r says n f c behind q
+
+    pub transcribing-23 : put ≡ 256 → (out : List ℕ) → Transcribed l (Broken (record { number = 23; second = place })) out
+    transcribing-23 e out = broke l out _ (broken-here l d left place written 23 j some (no-entry l place o r says n f c behind q (go (standsAs n f c st) refl)))
+      where
+        go : (b : Bool) → standsAs n f c st ≡ b → b ≡ false
+        go false t = refl
+        go true t = absurd (let k : put ≡ valueLength f c = v .says ∙ rw t in omega (arith, entry t .short, e))
+
+    -- the item stands
+    pub stands : (put ≡ 256 → ⊥) → standsAs n f c st ≡ true
+    stands h = go (standsAs n f c st) refl
+      where
+        go : (b : Bool) → standsAs n f c st ≡ b → b ≡ true
+        go true t = refl
+        go false t = absurd (h (v .says ∙ rw t))
+
+    module _ (h : put ≡ 256 → ⊥) where
+      -- what is known of its attribute
+      abbrev e : Entry l place n (valueAs n f c st) (valueLength f c) behind
+      e = entry (stands h)
+
+      put-is : put ≡ valueLength f c
+      put-is = v .says ∙ rw (stands h)
+
+      pub put-low : n < 512
+      put-low = e .low
+
+      pub put-short : headLength n + put < 256
+      put-short = omega (arith, e .short, put-is)
+
+      abbrev attribute : List ℕ
+      attribute = attributeOctets n (valueAs n f c st)
+
+      size : length attribute ≡ headLength n + put
+      size = attribute-long n (valueAs n f c st) ∙ omega (arith, e .value-long, put-is)
+
+      stands-here : (out : List ℕ) → at + headLength n ≤ length d → out ≡ laidAt at (attributeHead n put) first → Begun at attribute d out
+      stands-here out room p =
+          begun-as at (attributeHead n put ++ valueAs n f c st) attribute d out
+          (attribute-parts n (valueAs n f c st) ∙ ap (λ (k : ℕ). attributeHead n k ++ valueAs n f c st) (e .value-long ∙ sym put-is))
+          (begun-before at (at + headLength n) (attributeHead n put) (valueAs n f c st) d first out (ap (λ (k : ℕ). at + k) (head-long n put)) room (v .is (stands h)) p)
+
+      pub transcribing-more : (out : List ℕ) → 263 ≤ length d → at ≡ min written (length d - 263) → out ≡ laidAt at (attributeHead n put) first → Transcribing l out (left - 1) behind (written + (headLength n + put))
+      unfolding fault attributes areaOf
+      transcribing-more out room place-is p =
+          let b = stands-here out (omega (arith, put-short)) p in
+          let w : itemsAt l left place ≡ next (record { place = place; number = n; value = valueAs n f c st }) (itemsAt l (left - 1) behind) =
+          items-enter l left place n (valueAs n f c st) (e .size) some (e .entered-is)
+          ∙ ap (λ (b : ℕ). next (record { place = place; number = n; value = valueAs n f c st }) (itemsAt l (left - 1) b)) (sym (e .behind-is)) in
+          record {
+            gone = j .gone ++ attribute;
+            whole =
+                j .whole ∙ ap (λ (w : Walk). j .gone ++ areaOf (attributes w)) w
+                ∙ sym (append-assoc (j .gone) attribute (areaOf (attributes (itemsAt l (left - 1) behind))));
+            faults = j .faults ∙ ap fault w;
+            long = length-append (j .gone) attribute ∙ omega (arith, j .long, size);
+            few = omega (arith, put-short, j .few);
+            held = λ fits.
+                let here : at ≡ written = omega (arith, b .kept) in
+                let much : written + (headLength n + put) ≡ at + length attribute = omega (arith, size) in
+                ap (λ (k : ℕ). take k out) much ∙ b .is
+                ∙ ap (λ (g : List ℕ). g ++ attribute) (ap (λ (k : ℕ). take k d) here ∙ j .held (omega (arith, b .kept)));
+          }
+
+-- no item is left
+module _ (l out : List ℕ) (left place written : ℕ) (j : Transcribing l out left place written) (none-left : left ≡ 0) where
+  pub transcribing-remains : place < length l → Transcribed l (Broken (record { number = 22; second = place })) out
+  unfolding judgedOf fault
+  transcribing-remains h =
+      let f : fault (itemsIn l) ≡ refusal 22 place = j .faults ∙ ap fault (items-remain l left place none-left h) in
+      broke l out _ (rw f)
+
+  pub transcribing-done : length l ≤ place → Transcribed l (Items written) out
+  unfolding judgedOf fault attributes areaOf areaIn
+  transcribing-done h =
+      let w = items-end l left place none-left h in
+      let f : fault (itemsIn l) ≡ none = j .faults ∙ ap fault w in
+      let all : areaIn l ≡ j .gone = j .whole ∙ ap (λ (w : Walk). j .gone ++ areaOf (attributes w)) w ∙ append-nil (j .gone) in
+      let n : length (areaOf (attributes (itemsIn l))) ≡ written = ap length all ∙ j .long in
+      record {
+        says = rw (f, n);
+        holds = λ k q room.
+            let same : written ≡ k = cc in
+            ap (λ (m : ℕ). take m out) (sym same) ∙ j .held (omega arith) ∙ sym all;
+      }
