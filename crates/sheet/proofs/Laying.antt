@@ -12,7 +12,7 @@ use Rattle.meaning.specs.Octets.{octetsOf, pack, packedLength, digitValue}
 use Rattle.octets.specs.Parts.{partOf, laidAt, Begun}
 use Rattle.octets.specs.DigitStrings.{halves, eightOf, packedOf}
 use Rattle.octets.specs.declared.Digits.{Digits}
-use Rattle.octets.proofs.Overs.{each-laid}
+use Rattle.octets.proofs.Overs.{each-laid, laid-as}
 use Rattle.octets.proofs.Begun.{begun-laid, begun-as, begun-take, begun-on, begun-before}
 use Rattle.octets.proofs.Halves.{halves-packed}
 use Rattle.octets.proofs.DigitStrings.{eight-length, packed-length}
@@ -20,7 +20,7 @@ use Rattle.area.specs.declared.Part.{Part}
 use Rattle.shape.specs.declared.Item.{Item}
 use Rattle.shape.specs.declared.Value.the-variants as is
 use Rattle.shape.specs.Items.{storedPart, storedValue, storedIn}
-use Rattle.sheet.specs.Items.{headOf, itemIn, Within, Put, sheetHead}
+use Rattle.sheet.specs.Items.{namesOf, itemIn, Within, Put, sheetHead}
 
 -- A writer of exactly the octets s, which have room there, has put them.
 pub put-laid : (at n : ℕ) (s t d out : List ℕ) → t ≡ s → n ≡ length s → at + length t ≤ length d → out ≡ laidAt at s d → Put at t d n out
@@ -92,9 +92,15 @@ digits-put d at n size eight buf out e few long room h =
       holds = begun-take at (packedLength (min (d .len) 15)) (eightOf d) buf out (omega arith) (begun-laid at (eightOf d) buf out (omega (arith, eight-length d)) (rw e at h));
     }
 
--- the octets from the start of a part to its end
-abbrev cutOf : List ℕ → Part → List ℕ
+-- the octets from the start of a part to its end are those of the part
+abbrev pub cutOf : List ℕ → Part → List ℕ
 cutOf area p = take (p .start + p .len - p .start) (drop (p .start) area)
+
+pub cut-part : (area : List ℕ) (p : Part) → cutOf area p ≡ partOf area (p .start) (p .len)
+unfolding partOf
+cut-part area p =
+    let long : p .start + p .len - p .start ≡ p .len = omega arith in
+    ap (λ (n : ℕ). take n (drop (p .start) area)) long
 
 module _ (area : List ℕ) (i : Item) where
   -- an item of each value
@@ -117,10 +123,7 @@ module _ (area : List ℕ) (i : Item) where
   -- plain octets that lie in the area, as it is cut there
   module _ (p : Part) (e : i .value ≡ is.Plain p) where
     pub cut-stored : storedIn area i ≡ storedPart (i .form) (cutOf area p)
-    unfolding partOf
-    cut-stored =
-        let long : p .len ≡ p .start + p .len - p .start = omega arith in
-        part-stored p e ∙ ap (λ (n : ℕ). storedPart (i .form) (take n (drop (p .start) area))) long
+    cut-stored = part-stored p e ∙ ap (storedPart (i .form)) (sym (cut-part area p))
 
     pub cut-released : Within area i → i .form ≡ 6 → 3 ≤ length (cutOf area p)
     cut-released w six =
@@ -130,33 +133,46 @@ module _ (area : List ℕ) (i : Item) where
     cut-room at room h = omega (arith, ap length cut-stored)
 
   item-length : length (itemIn area i) ≡ 4 + length (storedIn area i)
-  unfolding itemIn headOf
+  unfolding itemIn namesOf
   item-length = omega arith
 
   pub stored-room : (at room : ℕ) → at + length (itemIn area i) + 8 ≤ room → at + 4 + length (storedIn area i) + 8 ≤ room
   stored-room at room h = omega (arith, item-length)
 
-  -- an item is its head and what it stores
-  module _ (at size : ℕ) (d first : List ℕ) (room : at + length (itemIn area i) + 8 ≤ length d) (w : Put (at + 4) (storedIn area i) d size first) where
-    pub item-put : (out : List ℕ) → out ≡ laidAt at (headOf i) first → Put at (itemIn area i) d (4 + size) out
-    unfolding itemIn headOf
-    item-put out h =
+  -- an item is the names that stand there, form and count, and what it stores
+  module _ (at size : ℕ) (held first : List ℕ) (room : at + length (itemIn area i) + 8 ≤ length held) (w : Put (at + 4) (storedIn area i) held size first) where
+    -- form and count have room
+    pub form-room : at + 4 ≤ length first
+    form-room = omega (arith, w .holds .kept)
+
+    form-laid : set (set first (at + 2) (i .form)) (at + 3) (i .count) ≡ laidAt (at + 2) (i .form ∷ i .count ∷ []) first
+    form-laid =
+        let there : at + 3 ≡ at + 2 + 1 = omega arith in
+        ap (λ (k : ℕ). set (set first (at + 2) (i .form)) k (i .count)) there
+        ∙ each-laid (at + 2) (i .form ∷ i .count ∷ []) first (omega (arith, form-room)) 1 refl
+
+    pub item-put : (d : List ℕ) → Begun at (namesOf (i .number)) d held → Put at (itemIn area i) d (4 + size) (set (set first (at + 2) (i .form)) (at + 3) (i .count))
+    unfolding itemIn namesOf
+    item-put d names =
+        let behind : at + 2 + 2 ≡ at + 4 = omega arith in
         record {
           says = omega (arith, w .says, item-length);
-          holds = begun-before at (at + 4) (headOf i) (storedIn area i) d first out refl (omega arith) (w .holds) h;
+          holds = begun-on at (at + 2) (namesOf (i .number)) (i .form ∷ i .count ∷ storedIn area i) d held _ refl names
+              (begun-before (at + 2) (at + 4) (i .form ∷ i .count ∷ []) (storedIn area i) held first _ behind (omega arith) (w .holds) form-laid);
         }
 
     -- the sum does not wrap
-    pub item-sum : 4 + size ≤ length d
+    pub item-sum : 4 + size ≤ length held
     item-sum = omega (arith, w .says, item-length)
 
-pub plain-head : (i : Item) → i .number < 256 → i .number ∷ 0 ∷ i .form ∷ i .count ∷ [] ≡ headOf i
-unfolding headOf
-plain-head i h = rw (lt-ltb (i .number) 256 h)
+-- the names of a plain number, and of one of 3GPP
+pub plain-names : (n at : ℕ) (d : List ℕ) → n < 256 → at + 2 ≤ length d → set (set d at n) (at + 1) 0 ≡ laidAt at (namesOf n) d
+unfolding namesOf
+plain-names n at d h room = laid-as at (n ∷ 0 ∷ []) _ d _ (rw (lt-ltb n 256 h)) (each-laid at (n ∷ 0 ∷ []) d room 1 refl)
 
-pub gpp-head : (i : Item) → 256 ≤ i .number → 26 ∷ (i .number - 256) ∷ i .form ∷ i .count ∷ [] ≡ headOf i
-unfolding headOf
-gpp-head i h = rw (le-ltb (i .number) 256 h)
+pub gpp-names : (n at : ℕ) (d : List ℕ) → 256 ≤ n → at + 2 ≤ length d → set (set d at 26) (at + 1) (n - 256) ≡ laidAt at (namesOf n) d
+unfolding namesOf
+gpp-names n at d h room = laid-as at (26 ∷ (n - 256) ∷ []) _ d _ (rw (le-ltb n 256 h)) (each-laid at (26 ∷ (n - 256) ∷ []) d room 1 refl)
 
 -- the head of a sheet, with the number of items in two octets
 pub head-laid : (kind flags count : ℕ) (many : List ℕ) → many ≡ octetsOf 2 count → 71 ∷ 73 ∷ 82 ∷ 0 ∷ 1 ∷ kind ∷ flags ∷ getD many 0 0 ∷ getD many 1 0 ∷ [] ≡ sheetHead kind flags count

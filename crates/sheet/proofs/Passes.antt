@@ -2,10 +2,10 @@
 use mathlib.Core.Path.{_≡_, refl, sym, ap, subst, _∙_}
 use mathlib.Core.List.{List, [], _++_, append-assoc, append-nil}
 use mathlib.Core.Bool.{Bool, true, false, cond}
-use Prim.Native.Nat.{ℕ, _+_, _-_, _*_, _≤_}
+use Prim.Native.Nat.{ℕ, _+_, _*_, _<_, _≤_}
 use native.Mathlib.Omega.{arith}
 use lib.Dec.{eqb}
-use lib.ListN.{length, take, drop, length-append, length-drop}
+use lib.ListN.{length, drop, length-append, length-drop}
 use lib.Seq.{length-take-le}
 use Rattle.meaning.specs.Octets.{Octets, numberOf}
 use Rattle.meaning.specs.Framing.{Walk, end, broken, walk, walkAt, attributes}
@@ -13,8 +13,9 @@ use Rattle.meaning.specs.Refusals.{fault}
 use Rattle.meaning.specs.Sheet.{form, stored, item, itemsOf}
 use Rattle.meaning.proofs.Forms.{stored-le}
 use Rattle.meaning.proofs.Bounds.{count-fits}
-use Rattle.octets.specs.Parts.{partOf, Begun}
-use Rattle.octets.proofs.Begun.{begun-none, begun-on, begun-first}
+use Rattle.octets.specs.Parts.{partOf, laidAt, Begun}
+use Rattle.octets.proofs.Overs.{laid-keeps}
+use Rattle.octets.proofs.Begun.{begun-none, begun-laid, begun-as, begun-on, begun-first}
 use Rattle.area.specs.declared.Refusal.{Refusal}
 use Rattle.area.specs.declared.Part.{Part}
 use Rattle.area.proofs.Steps.{Stands}
@@ -25,8 +26,9 @@ use Rattle.shape.specs.Items.{valueBy, itemAt, itemFor}
 use Rattle.shape.proofs.Formed.{formed-as}
 use Rattle.shape.proofs.Items.{item-there}
 use Rattle.shape.proofs.Stored.{item-as-meant}
+use Rattle.sheet.proofs.Laying.{cutOf, cut-part}
 use Rattle.sheet.specs.declared.Tally.the-variants.{Whole, Broken}
-use Rattle.sheet.specs.Items.{headOf, itemIn, Small, Within, Put, itemsIn, PassSays}
+use Rattle.sheet.specs.Items.{namesOf, itemIn, Within, Put, itemsIn, PassSays}
 
 -- The loop stands at a place and has gone over the attributes before it, whose items are so many octets and stand at the start of the
 -- buffer, which was d.
@@ -52,7 +54,7 @@ passing-none l d =
 
 -- the item that the meaning has for an attribute is the one that is made of it
 item-meant : (l : List ℕ) (n : ℕ) (p : Part) → Octets l → itemIn l (itemAt l n p) ≡ item n (partOf l (p .start) (p .len))
-unfolding itemIn headOf
+unfolding itemIn namesOf
 item-meant l n p o = item-as-meant l n p o
 
 -- plain octets of an item are the part that it was made of
@@ -87,63 +89,74 @@ module _ (l : List ℕ) (place n : ℕ) (p : Part) (behind : ℕ) (g : Stands l 
   item-bound : length (item n (valueIn l p)) + 2 * place ≤ 2 * behind
   item-bound = omega (arith, item-size, stored-le n (valueIn l p), value-long, g .onwards, g .starts, g .ends)
 
-  -- the item is made of the octets up to the next attribute
-  item-made : (i : Item) → i ≡ itemFor n (take (behind - p .start) (drop (p .start) l)) p → i ≡ itemAt l n p
-  unfolding partOf
-  item-made i e =
-      let long : behind - p .start ≡ p .len = omega (arith, g .ends) in
-      e ∙ item-there l n p (take (behind - p .start) (drop (p .start) l)) (ap (λ (k : ℕ). take k (drop (p .start) l)) long)
+  -- its number is carried
+  pub number-low : n < 512
+  number-low = g .carried o .low
 
-  -- its number is carried and its count is an octet
-  pub item-small : (i : Item) → i ≡ itemFor n (take (behind - p .start) (drop (p .start) l)) p → Small i
-  unfolding itemAt itemFor partOf
-  item-small i e =
-      let c = g .carried o in
-      subst Small (sym (item-made i e)) (record { number-low = c .low; count-low = count-fits _ c })
-
-  -- its plain octets lie in the area
-  pub item-within : (i : Item) → i ≡ itemFor n (take (behind - p .start) (drop (p .start) l)) p → Within l i
-  unfolding itemAt itemFor
-  item-within i e =
-      let v : List ℕ = valueIn l p in
-      subst (Within l) (sym (item-made i e))
-      (record {
-        inside = λ q h. omega (arith, ap (λ (r : Part). r .start + r .len) (plain-part (form n v) v (stored n v) p q h), g .ends, g .inside);
-        released = λ q h six. omega (arith, ap (λ (r : Part). r .len) (plain-part (form n v) v (stored n v) p q h), value-long, formed-as n v 6 six .long);
-      })
+  -- and its names have room
+  pub names-fit : (d out : List ℕ) (count written : ℕ) → Passing l d out place count written → 2 * length l + 8 ≤ length d → written + 2 ≤ length out
+  names-fit d out count written k room = omega (arith, k .few, k .held .kept, g .onwards, g .inside)
 
   -- the item of the attribute
-  module _ (i : Item) (made : i ≡ itemFor n (take (behind - p .start) (drop (p .start) l)) p) where
+  module _ (i : Item) (made : i ≡ itemFor n (cutOf l p) p) where
+    item-made : i ≡ itemAt l n p
+    item-made = made ∙ item-there l n p (cutOf l p) (cut-part l p)
+
+    -- its count is an octet
+    pub item-count : i .count < 256
+    unfolding itemAt itemFor partOf
+    item-count = subst (λ (j : Item). j .count < 256) (sym item-made) (count-fits _ (g .carried o))
+
+    -- its plain octets lie in the area
+    pub item-within : Within l i
+    unfolding itemAt itemFor
+    item-within =
+        let v : List ℕ = valueIn l p in
+        subst (Within l) (sym item-made)
+        (record {
+          inside = λ q h. omega (arith, ap (λ (r : Part). r .start + r .len) (plain-part (form n v) v (stored n v) p q h), g .ends, g .inside);
+          released = λ q h six. omega (arith, ap (λ (r : Part). r .len) (plain-part (form n v) v (stored n v) p q h), value-long, formed-as n v 6 six .long);
+        })
+
     octets-are : itemIn l i ≡ item n (valueIn l p)
-    octets-are = ap (itemIn l) (item-made i made) ∙ item-meant l n p o
+    octets-are = ap (itemIn l) item-made ∙ item-meant l n p o
 
     module _ (d out : List ℕ) (count written : ℕ) (k : Passing l d out place count written) where
       item-inside : written + length (itemIn l i) ≤ 2 * behind
       item-inside = omega (arith, ap length octets-are, item-bound, k .few)
 
-      -- there is room for the item and eight octets more
-      pub item-fits : 2 * length l + 8 ≤ length d → written + length (itemIn l i) + 8 ≤ length out
-      item-fits room = omega (arith, item-inside, k .held .kept, g .inside)
+      -- its names were laid behind the items before it
+      module _ (room : 2 * length l + 8 ≤ length d) (named : List ℕ) (first : named ≡ laidAt written (namesOf n) out) where
+        -- there is room for the item and eight octets more
+        pub item-fits : written + length (itemIn l i) + 8 ≤ length named
+        item-fits = laid-keeps written (namesOf n) out named _ first (omega (arith, item-inside, k .held .kept, g .inside))
 
-      -- it was put behind the items before it
-      module _ (size : ℕ) (after : List ℕ) (w : Put written (itemIn l i) out size after) where
-        -- the sum does not wrap
-        pub passing-sum : written + size ≤ 2 * length l
-        passing-sum = omega (arith, w .says, item-inside, g .inside)
+        names-begun : Begun written (namesOf (i .number)) out named
+        unfolding namesOf itemAt itemFor
+        names-begun = begun-as written (namesOf n) _ out named (ap (λ (j : Item). namesOf (j .number)) item-made) (begun-laid written (namesOf n) out named (names-fit d out count written k room) first)
 
-        -- one attribute more
-        pub passing-more : Passing l d after behind (count + 1) (written + size)
-        passing-more =
-            record {
-              passed = framing.passed-more l count place (k .passed) n p behind g;
-              gone = k .gone ++ itemIn l i;
-              whole =
-                  k .whole ∙ ap (λ (s : List ℕ). k .gone ++ s) (walks-on ∙ ap (λ (s : List ℕ). s ++ itemsOf (attributes (walkAt l behind))) (sym octets-are))
-                  ∙ sym (append-assoc (k .gone) (itemIn l i) (itemsOf (attributes (walkAt l behind))));
-              long = omega (arith, length-append (k .gone) (itemIn l i), k .long, w .says);
-              few = omega (arith, w .says, item-inside);
-              held = begun-on 0 written (k .gone) (itemIn l i) d out after (omega (arith, k .long)) (k .held) (w .holds);
-            }
+        -- it was put there
+        module _ (size : ℕ) (after : List ℕ) (says : (b : List ℕ) → Begun written (namesOf (i .number)) b named → Put written (itemIn l i) b size after) where
+          put : Put written (itemIn l i) out size after
+          put = says out names-begun
+
+          -- the sum does not wrap
+          pub passing-sum : written + size ≤ 2 * length l
+          passing-sum = omega (arith, put .says, item-inside, g .inside)
+
+          -- one attribute more
+          pub passing-more : Passing l d after behind (count + 1) (written + size)
+          passing-more =
+              record {
+                passed = framing.passed-more l count place (k .passed) n p behind g;
+                gone = k .gone ++ itemIn l i;
+                whole =
+                    k .whole ∙ ap (λ (s : List ℕ). k .gone ++ s) (walks-on ∙ ap (λ (s : List ℕ). s ++ itemsOf (attributes (walkAt l behind))) (sym octets-are))
+                    ∙ sym (append-assoc (k .gone) (itemIn l i) (itemsOf (attributes (walkAt l behind))));
+                long = omega (arith, length-append (k .gone) (itemIn l i), k .long, put .says);
+                few = omega (arith, put .says, item-inside);
+                held = begun-on 0 written (k .gone) (itemIn l i) d out after (omega (arith, k .long)) (k .held) (put .holds);
+              }
 
 -- The loop is left.
 module _ (l d out : List ℕ) (place count written : ℕ) (k : Passing l d out place count written) where

@@ -1,5 +1,5 @@
 -- Document 01, "The sheet": the octets of an item, of the items and of the sheet's head, as the writers lay them. Assumes nothing.
-use Prim.Native.Nat.{ℕ, _+_, _*_, _<_, _≤_}
+use Prim.Native.Nat.{ℕ, _+_, _*_, _≤_}
 use mathlib.Core.Path.{_≡_}
 use mathlib.Core.List.{List, [], _∷_, _++_}
 use lib.ListN.{length, take}
@@ -16,18 +16,13 @@ use Rattle.shape.specs.Items.{storedIn}
 use Rattle.sheet.specs.declared.Tally.{Tally}
 use Rattle.sheet.specs.declared.Tally.the-variants.{Whole, Broken}
 
--- "type, sub-attribute number, form, count" of an item
-unfoldable pub headOf : Item → List ℕ
-headOf i = typeOf (i .number) ∷ subOf (i .number) ∷ i .form ∷ i .count ∷ []
+-- "type, sub-attribute number" of a carried number
+unfoldable pub namesOf : (number : ℕ) → List ℕ
+namesOf n = typeOf n ∷ subOf n ∷ []
 
--- the octets of an item that speaks of an area
+-- "type, sub-attribute number, form, count" and what is stored: the octets of an item that speaks of an area
 unfoldable pub itemIn : (area : List ℕ) → Item → List ℕ
-itemIn area i = headOf i ++ storedIn area i
-
--- an item whose number is carried and whose count is an octet
-pub record Small (i : Item) : Type 0 where
-  pub number-low : i .number < 512
-  pub count-low : i .count < 256
+itemIn area i = namesOf (i .number) ++ i .form ∷ i .count ∷ storedIn area i
 
 -- an item whose plain octets lie in the area, and in form 6 have a release before the digits
 pub record Within (area : List ℕ) (i : Item) : Type 0 where

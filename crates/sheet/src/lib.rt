@@ -7,17 +7,17 @@ use shape::Item;
 use shape::Value;
 ghost use mathlib.Core.Path.{_≡_};
 ghost use mathlib.Core.Bool.{cond};
-ghost use mathlib.Core.List.{[], _∷_};
-ghost use Prim.Native.Nat.{_+_, _-_, _*_, _%_, _≤_, _<_};
+ghost use mathlib.Core.List.{List, [], _∷_};
+ghost use Prim.Native.Nat.{ℕ, _+_, _-_, _*_, _%_, _≤_, _<_};
 ghost use lib.Dec.{eqb};
 ghost use lib.ListN.{length, drop, getD};
 ghost use Rattle.meaning.specs.Octets.{octetsOf, pack, packedLength, digitValue};
-ghost use Rattle.octets.specs.Parts.{laidAt};
+ghost use Rattle.octets.specs.Parts.{laidAt, Begun};
 ghost use Rattle.octets.specs.DigitStrings.{halves};
 ghost use Rattle.area.specs.Answers.{arrivalOf};
 ghost use Rattle.area.specs.declared.Arrival.the-variants.{Fit};
 ghost use Rattle.shape.specs.Items.{storedPart, storedIn};
-ghost use Rattle.sheet.specs.Items.{headOf, itemIn, Small, Within, Put, sheetHead, PassSays};
+ghost use Rattle.sheet.specs.Items.{namesOf, itemIn, Within, Put, sheetHead, PassSays};
 ghost use Rattle.sheet.specs.Answers.{Read};
 
 // What reading answers: the octets of the sheet that stands at the buffer's start, or a refusal.
@@ -135,28 +135,29 @@ fn put_stored(buf: &mut [u8], at: usize, area: &[u8], item: Item) -> usize
     }
 }
 
-// Lays "type, sub-attribute number, form, count" of an item.
-fn put_head(buf: &mut [u8], at: usize, item: Item)
-    requires { ⌜ Small item × (at + 4 ≤ length (now buf)) ⌝ }
-    ensures { λ _. ⌜ now (buf .exit) ≡ laidAt at (headOf item) (now (buf .entry)) ⌝ }
+// Lays "type, sub-attribute number" of a carried number.
+fn put_names(buf: &mut [u8], at: usize, number: u16)
+    requires { ⌜ (number < 512) × (at + 2 ≤ length (now buf)) ⌝ }
+    ensures { λ _. ⌜ now (buf .exit) ≡ laidAt at (namesOf number) (now (buf .entry)) ⌝ }
 {
-    let n = item.number;
-    let form = item.form;
-    let count = item.count as u8;
-    if n < 256 {
-        put_four(buf, at, [n as u8, 0, form, count]);
+    if number < 256 {
+        buf[at] = number as u8;
+        buf[at + 1] = 0;
         return;
     }
-    put_four(buf, at, [26, (n - 256) as u8, form, count]);
+    buf[at] = 26;
+    buf[at + 1] = (number - 256) as u8;
 }
 
-// Lays an item, its stored octets and the head before them, with the same room behind them.
+// Lays an item whose type and sub-attribute number stand there already, over what the buffer d held: what it stores, with the same room
+// behind it, and its form and count before that.
 fn put_item(buf: &mut [u8], at: usize, area: &[u8], item: Item) -> usize
-    requires { ⌜ Small item × Within (now area) item × (at + length (itemIn (now area) item) + 8 ≤ length (now buf)) ⌝ }
-    ensures { λ r. ⌜ Put at (itemIn (now (area .entry)) item) (now (buf .entry)) r (now (buf .exit)) ⌝ }
+    requires { ⌜ (item .count < 256) × Within (now area) item × (at + length (itemIn (now area) item) + 8 ≤ length (now buf)) ⌝ }
+    ensures { λ r. ⌜ ((d : List ℕ) → Begun at (namesOf (item .number)) d (now (buf .entry)) → Put at (itemIn (now (area .entry)) item) d r (now (buf .exit))) ⌝ }
 {
     let size = put_stored(buf, at + 4, area, item);
-    put_head(buf, at, item);
+    buf[at + 2] = item.form;
+    buf[at + 3] = item.count as u8;
     4 + size
 }
 
@@ -177,7 +178,9 @@ fn put_items(area: &[u8], buf: &mut [u8]) -> Tally
                 next,
             } => {
                 let start = value.start;
-                let item = shape::item_of(&area[start..next], number, value);
+                let end = start + value.len;
+                put_names(buf, written, number);
+                let item = shape::item_of(&area[start..end], number, value);
                 written += put_item(buf, written, area, item);
                 place = next;
                 count += 1;

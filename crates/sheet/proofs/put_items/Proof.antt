@@ -6,7 +6,7 @@ use lib.ListN.{length}
 use native.Mathlib.Omega.{arith}
 use Rattle.area.proofs.Steps.{Stands, slice-octets, step-attribute, step-refused, step-ended}
 use Rattle.meaning.specs.Octets.{Octets}
-use Rattle.sheet.proofs.Passes.{Passing, passing-none, passing-sum, passing-more, passing-done, passing-broken, item-small, item-within, item-fits}
+use Rattle.sheet.proofs.Passes.{Passing, passing-none, passing-sum, passing-more, passing-done, passing-broken, number-low, names-fit, item-count, item-within, item-fits}
 use Rattle.sheet.proofs.put_items.Statement.{statement}
 use Rattle.sheet.proofs.put_items.Tie as tie
 
@@ -35,46 +35,57 @@ step-at-requires c κs = search needs
 enum-known-number : tie.Need-enum-known-number Inv-loop μ-loop
 enum-known-number c = search needs
 
+add-end : tie.Need-add-end Inv-loop μ-loop
+add-end c =
+    let z = c .before .before .before .before .before .before .before .before .good in
+    omega (arith, stands (c .before) .ends, stands (c .before) .inside)
+
+put-names-requires : tie.Need-put-names-requires Inv-loop μ-loop
+put-names-requires c κs =
+    let k = c .before .before in
+    (number-low _ _ _ _ _ (stands k) (octets k), names-fit _ _ _ _ _ (stands k) (octets k) _ _ _ _ (k .before .before .before .before .loop .inv) (k .before .before .before .before .before .before .before .pre))
+
 sub-item-of : tie.Need-sub-item-of Inv-loop μ-loop
-sub-item-of c = omega (arith, stands c .ends)
+sub-item-of c = search needs
 
 part-item-of-start : tie.Need-part-item-of-start Inv-loop μ-loop
-part-item-of-start c = omega (arith, stands c .ends)
+part-item-of-start c = search needs
 
 part-item-of-end : tie.Need-part-item-of-end Inv-loop μ-loop
-part-item-of-end c = stands c .inside
+part-item-of-end c =
+    let k = c .before .before .before .before .before in
+    omega (arith, stands k .ends, stands k .inside)
 
 item-of-requires : tie.Need-item-of-requires Inv-loop μ-loop
 item-of-requires c κs = search needs
 
 put-item-requires : tie.Need-put-item-requires Inv-loop μ-loop
 put-item-requires c κs =
-    let k = c .before .before .before in
-    let i = k .before .before .before .before .loop .inv in
+    let k = c .before .before .before .before .before .before .before .before in
     let e = c .before .item-of .ensures in
-    (item-small _ _ _ _ _ (stands k) (octets k) _ e, item-within _ _ _ _ _ (stands k) (octets k) _ e, item-fits _ _ _ _ _ (stands k) (octets k) _ e _ _ _ _ i (k .before .before .before .before .before .before .before .pre))
+    (item-count _ _ _ _ _ (stands k) (octets k) _ e, item-within _ _ _ _ _ (stands k) (octets k) _ e, item-fits _ _ _ _ _ (stands k) (octets k) _ e _ _ _ _ (k .before .before .before .before .loop .inv) (k .before .before .before .before .before .before .before .pre) _ (c .before .before .before .before .before .put-names .ensures))
 
 add-written : tie.Need-add-written Inv-loop μ-loop
 add-written c =
-    let k = c .before .before .before .before .before .before in
+    let k = c .before .before .before .before .before .before .before .before .before .before .before in
     let z = k .before .before .before .before .before .before .before .good in
-    omega (arith, passing-sum _ _ _ _ _ (stands k) (octets k) _ (c .before .before .before .before .item-of .ensures) _ _ _ _ (k .before .before .before .before .loop .inv) _ _ (c .before .before .put-item .ensures))
+    omega (arith, passing-sum _ _ _ _ _ (stands k) (octets k) _ (c .before .before .before .before .item-of .ensures) _ _ _ _ (k .before .before .before .before .loop .inv) (k .before .before .before .before .before .before .before .pre) _ (c .before .before .before .before .before .before .before .before .put-names .ensures) _ _ (c .before .before .put-item .ensures))
 
 add-count : tie.Need-add-count Inv-loop μ-loop
 add-count c =
-    let k = c .before .before .before .before .before .before in
+    let k = c .before .before .before .before .before .before .before .before .before .before .before in
     let p = k .before .before .before .before .loop .inv .passed in
     omega (arith, p .few, stands k .onwards, stands k .inside)
 
 loop-less : tie.Need-loop-less Inv-loop μ-loop
 loop-less c =
-    let k = c .before .before .before .before .before .before in
+    let k = c .before .before .before .before .before .before .before .before .before .before .before in
     omega (arith, stands k .onwards, stands k .inside)
 
 loop-again : tie.Need-loop-again Inv-loop μ-loop
 loop-again c =
-    let k = c .before .before .before .before .before .before in
-    passing-more _ _ _ _ _ (stands k) (octets k) _ (c .before .before .before .before .item-of .ensures) _ _ _ _ (k .before .before .before .before .loop .inv) _ _ (c .before .before .put-item .ensures)
+    let k = c .before .before .before .before .before .before .before .before .before .before .before in
+    passing-more _ _ _ _ _ (stands k) (octets k) _ (c .before .before .before .before .item-of .ensures) _ _ _ _ (k .before .before .before .before .loop .inv) (k .before .before .before .before .before .before .before .pre) _ (c .before .before .before .before .before .before .before .before .put-names .ensures) _ _ (c .before .before .put-item .ensures)
 
 enum-known-refusal : tie.Need-enum-known-refusal Inv-loop μ-loop
 enum-known-refusal c = search needs
@@ -107,6 +118,8 @@ put-items-spec =
     loop-holds
     step-at-requires
     enum-known-number
+    add-end
+    put-names-requires
     sub-item-of
     part-item-of-start
     part-item-of-end
