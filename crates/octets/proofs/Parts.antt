@@ -5,7 +5,7 @@ use Prim.Native.Nat.{ℕ, zero, suc, _+_, _-_, _^_, _<_, _≤_, min}
 use native.Mathlib.Nat.{pow-le-pow-right, add-zero}
 use native.Mathlib.Omega.{arith}
 use lib.ListN.{length, take, drop, getD, length-take, length-drop, drop-of-length-le}
-use lib.Seq.{take-all, take-nil, drop-cons}
+use lib.Seq.{take-all, take-nil, drop-cons, getD-take, getD-drop}
 use Rattle.meaning.specs.Octets.{Octets}
 use Rattle.meaning.proofs.Octets.{octets-take, octets-drop}
 use Rattle.octets.specs.Parts.{partOf}
@@ -33,6 +33,11 @@ part-rest l at n h = take-all n (drop at l) (omega (arith, length-drop at l))
 
 pub part-to-end : (l : List ℕ) (at n : ℕ) → length l - at ≤ n → take (length l - at) (drop at l) ≡ partOf l at n
 part-to-end l at n h = take-all (length l - at) (drop at l) (omega (arith, length-drop at l)) ∙ sym (part-rest l at n h)
+
+-- an octet of a part, by its place in the whole
+pub part-at : (l : List ℕ) (at n i : ℕ) → i < n → getD (partOf l at n) i 0 ≡ getD l (at + i) 0
+unfolding partOf
+part-at l at n i h = getD-take n (drop at l) i 0 h ∙ getD-drop at l i 0
 
 -- the octets of l from the place at + k on, by their places
 abbrev pub placed : (l : List ℕ) (at k n : ℕ) → List ℕ

@@ -262,13 +262,47 @@ pub fn half_of(x: u8) -> u8
     digit_value(x) % 16
 }
 
-// Whether every octet of `s` is a decimal digit.
+// Whether every octet of `s` is a decimal digit, two at a time from the end.
 pub fn all_digits(s: &[u8]) -> bool
     ensures { λ r. ⌜ r ≡ all isDigit (now (s .entry)) ⌝ }
 {
+    let mut i = s.len();
+    if i % 2 == 1 {
+        i -= 1;
+        if !is_digit(s[i]) {
+            return false;
+        }
+    }
+    while 0 < i {
+        if !(is_digit(s[i - 2]) & is_digit(s[i - 1])) {
+            return false;
+        }
+        i -= 2;
+    }
+    true
+}
+
+// Whether the sixteen octets at a place are hexadecimal digits. All are tested, so that they can be tested at once.
+fn hex_sixteen(s: &[u8], at: usize) -> bool
+    requires { ⌜ at + 16 ≤ length (now s) ⌝ }
+    ensures { λ r. ⌜ r ≡ all isHex (partOf (now (s .entry)) at 16) ⌝ }
+{
+    let mut i: usize = 0;
+    let mut ok = true;
+    while i < 16 {
+        ok = ok & is_hex(s[at + i]);
+        i += 1;
+    }
+    ok
+}
+
+// Whether every octet of `s`, of which there are few, is a hexadecimal digit: one by one.
+fn few_hex(s: &[u8]) -> bool
+    ensures { λ r. ⌜ r ≡ all isHex (now (s .entry)) ⌝ }
+{
     let mut i: usize = 0;
     while i < s.len() {
-        if !is_digit(s[i]) {
+        if !is_hex(s[i]) {
             return false;
         }
         i += 1;
@@ -276,17 +310,22 @@ pub fn all_digits(s: &[u8]) -> bool
     true
 }
 
-// Whether every octet of `s` is a hexadecimal digit. All are tested, so that many can be tested at once.
+// Whether every octet of `s` is a hexadecimal digit, by sixteens, the last of which may hold some that are tested already.
 pub fn all_hex(s: &[u8]) -> bool
     ensures { λ r. ⌜ r ≡ all isHex (now (s .entry)) ⌝ }
 {
-    let mut i: usize = 0;
-    let mut ok = true;
-    while i < s.len() {
-        ok = ok & is_hex(s[i]);
-        i += 1;
+    if s.len() < 16 {
+        return few_hex(s);
     }
-    ok
+    let last = s.len() - 16;
+    let mut i: usize = 0;
+    while i < last {
+        if !hex_sixteen(s, i) {
+            return false;
+        }
+        i += 16;
+    }
+    hex_sixteen(s, last)
 }
 
 // The octets that `n` halves are packed in: "half the count, rounded up".
@@ -443,18 +482,25 @@ fn pack_rest(buf: &mut [u8], text: &[u8], at: usize)
     }
 }
 
-// Writes the halves of `text`, two to an octet, over the start of `buf`.
+// Writes the halves of `text`, two to an octet, over the start of `buf`, by eights, the last of which may hold some that are
+// written already.
 fn pack_text(buf: &mut [u8], text: &[u8])
     requires { ⌜ packedLength (length (now text)) ≤ length (now buf) ⌝ }
     ensures { λ _. ⌜ now (buf .exit) ≡ over (pack (halves (now (text .entry)))) (now (buf .entry)) ⌝ }
 {
     let pairs = text.len() / 2;
+    if pairs < 8 {
+        pack_rest(buf, text, 0);
+        return;
+    }
+    let last = pairs - 8;
     let mut i: usize = 0;
-    while 8 <= pairs - i {
+    while i < last {
         pack_eight(buf, text, i);
         i += 8;
     }
-    pack_rest(buf, text, i);
+    pack_eight(buf, text, last);
+    pack_rest(buf, text, pairs);
 }
 
 // Writes the halves of `text`, two to an octet, over `buf` from the place `at` on and says true, if they fit; else changes

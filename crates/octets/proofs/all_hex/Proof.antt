@@ -1,27 +1,38 @@
--- The octets passed are tested, and what they say goes with the test of the rest. Assumes nothing.
+-- The sixteens passed are hexadecimal digits; the last sixteen, some of which are passed, decide. Assumes nothing.
 use borrow.Author.Needs.{needs}
-use Prim.Native.Nat.{_-_}
+use mathlib.Core.Path.{refl, sym, _∙_}
+use mathlib.Core.Bool.{true}
+use Prim.Native.Nat.{_-_, _+_, _≤_}
+use borrow.Author.Tests.{not-true, not-false}
 use native.Mathlib.Omega.{arith}
-use lib.ListN.{length}
 use Rattle.meaning.specs.Octets.{isHex}
-use Rattle.octets.proofs.EachOne.{Tested, tested-none, tested-more, tested-all}
+use Rattle.octets.proofs.EachOne.{Tested, part-fails, tested-none, tested-part, tested-last}
 use Rattle.octets.proofs.all_hex.Statement.{statement}
 use Rattle.octets.proofs.all_hex.Tie as tie
 
 abbrev Inv-loop : tie.InvT-loop
-Inv-loop s i₀ ok₀ i ok = Tested isHex s i ok
+Inv-loop s last i₀ i = Tested isHex s i true × (i ≤ last + 16)
 
 abbrev μ-loop : tie.MeasureT-loop
-μ-loop s i₀ ok₀ i ok = length s - i
+μ-loop s last i₀ i = last + 16 - i
+
+few-hex-requires : tie.Need-few-hex-requires Inv-loop μ-loop
+few-hex-requires c κs = search needs
+
+returns : tie.Need-returns Inv-loop μ-loop
+returns c = c .few-hex .ensures
+
+sub-last : tie.Need-sub-last Inv-loop μ-loop
+sub-last c = search needs
 
 loop-holds : tie.Need-loop-holds Inv-loop μ-loop
-loop-holds c = tested-none isHex _
+loop-holds c = (tested-none isHex _, omega arith)
 
-shared-slice-read-is-hex : tie.Need-shared-slice-read-is-hex Inv-loop μ-loop
-shared-slice-read-is-hex c = search needs
+hex-sixteen-requires : tie.Need-hex-sixteen-requires Inv-loop μ-loop
+hex-sixteen-requires c κs = search needs
 
-is-hex-requires : tie.Need-is-hex-requires Inv-loop μ-loop
-is-hex-requires c κs = search needs
+returns-2 : tie.Need-returns-2 Inv-loop μ-loop
+returns-2 c = sym (part-fails isHex _ _ 16 (sym (c .before .hex-sixteen .ensures) ∙ not-true _ (c .if2 .taken)))
 
 add-i : tie.Need-add-i Inv-loop μ-loop
 add-i c = search needs
@@ -30,10 +41,13 @@ loop-less : tie.Need-loop-less Inv-loop μ-loop
 loop-less c = search needs
 
 loop-again : tie.Need-loop-again Inv-loop μ-loop
-loop-again c = tested-more isHex _ _ _ (c .before .before .before .loop .inv) _ (omega arith) (c .is-hex .ensures)
+loop-again c = (tested-part isHex _ _ true (c .before .before .before .loop .inv .0) 16 true (sym (not-false _ (c .if2 .left)) ∙ c .before .hex-sixteen .ensures), omega arith)
 
-returns : tie.Need-returns Inv-loop μ-loop
-returns c = tested-all isHex _ _ _ (c .before .loop .inv) (omega arith)
+hex-sixteen-requires-2 : tie.Need-hex-sixteen-requires-2 Inv-loop μ-loop
+hex-sixteen-requires-2 c κs = search needs
+
+returns-3 : tie.Need-returns-3 Inv-loop μ-loop
+returns-3 c = tested-last isHex _ _ true (c .before .before .loop .inv .0) refl _ 16 _ (omega arith) (omega arith) (c .hex-sixteen2 .ensures)
 
 pub all-hex-spec : {M : Type 1} → statement M
 all-hex-spec =
@@ -41,10 +55,14 @@ all-hex-spec =
     (tie.spec
     Inv-loop
     μ-loop
+    few-hex-requires
+    returns
+    sub-last
     loop-holds
-    shared-slice-read-is-hex
-    is-hex-requires
+    hex-sixteen-requires
+    returns-2
     add-i
     loop-less
     loop-again
-    returns)
+    hex-sixteen-requires-2
+    returns-3)

@@ -1,26 +1,33 @@
--- The octets passed hold the halves before them; the rest is packed behind them. Assumes nothing.
+-- The octets passed hold the halves before them; the last eight, some of which are passed, end the pairs, and the rest is packed
+-- behind them. Assumes nothing.
 use borrow.Author.Needs.{needs}
-use Prim.Native.Nat.{_-_, _≤_}
+use Prim.Native.Nat.{_-_, _+_, _≤_}
 use native.Mathlib.Omega.{arith}
 use Rattle.meaning.specs.Octets.{pack}
 use Rattle.octets.specs.Parts.{Written}
 use Rattle.octets.specs.DigitStrings.{halves}
-use Rattle.octets.proofs.Overs.{written-none, written-begun, written-on, written-end}
+use Rattle.octets.proofs.Overs.{written-none, written-begun, written-before, written-on, written-end}
 use Rattle.octets.proofs.Halves.{halves-packed}
 use Rattle.octets.proofs.pack_text.Statement.{statement}
 use Rattle.octets.proofs.pack_text.Tie as tie
 
 abbrev Inv-loop : tie.InvT-loop
-Inv-loop buf₀ text pairs i₀ buf i = Written (pack (halves text)) buf₀ buf i × (i ≤ pairs)
+Inv-loop buf₀ text pairs last i₀ buf i = Written (pack (halves text)) buf₀ buf i × (i ≤ pairs)
 
 abbrev μ-loop : tie.MeasureT-loop
-μ-loop buf₀ text pairs i₀ buf i = pairs - i
+μ-loop buf₀ text pairs last i₀ buf i = pairs - i
+
+pack-rest-requires : tie.Need-pack-rest-requires Inv-loop μ-loop
+pack-rest-requires c κs = (written-none _ _ (omega (arith, halves-packed (c .before .before .before .before .args .text .now))), omega arith)
+
+same-length : tie.Need-same-length Inv-loop μ-loop
+same-length c = search needs
+
+returns : tie.Need-returns Inv-loop μ-loop
+returns c = c .before .before .pack-rest .ensures
 
 loop-holds : tie.Need-loop-holds Inv-loop μ-loop
-loop-holds c = (written-none _ _ (omega (arith, halves-packed (c .before .before .args .text .now))), omega arith)
-
-sub-loop : tie.Need-sub-loop Inv-loop μ-loop
-sub-loop c = search needs
+loop-holds c = (written-none _ _ (omega (arith, halves-packed (c .before .before .before .args .text .now))), omega arith)
 
 pack-eight-requires : tie.Need-pack-eight-requires Inv-loop μ-loop
 pack-eight-requires c κs = (written-begun _ _ _ _ (c .before .before .loop .inv .0), omega arith)
@@ -34,14 +41,20 @@ loop-less c = search needs
 loop-again : tie.Need-loop-again Inv-loop μ-loop
 loop-again c = (written-on _ _ _ _ _ _ (c .before .before .before .before .before .loop .inv .0) (c .before .before .pack-eight .ensures) (omega arith), omega arith)
 
-pack-rest-requires : tie.Need-pack-rest-requires Inv-loop μ-loop
-pack-rest-requires c κs = (written-begun _ _ _ _ (c .before .before .loop .inv .0), omega arith)
+pack-eight-requires-2 : tie.Need-pack-eight-requires-2 Inv-loop μ-loop
+pack-eight-requires-2 c κs = (written-before _ _ _ _ _ (c .before .before .loop .inv .0) (omega arith), omega arith)
 
-same-length : tie.Need-same-length Inv-loop μ-loop
-same-length c = search needs
+pack-rest-requires-2 : tie.Need-pack-rest-requires-2 Inv-loop μ-loop
+pack-rest-requires-2 c κs = let w = written-on _ _ _ _ _ _ (c .before .before .before .before .before .before .loop .inv .0) (c .before .before .before .pack-eight2 .ensures) (omega arith) in
+    (written-before _ _ _ _ _ w (omega arith), omega arith)
 
-returns : tie.Need-returns Inv-loop μ-loop
-returns c = written-end _ _ _ _ _ (c .before .before .before .before .before .loop .inv .0) (c .before .before .pack-rest .ensures)
+same-length-2 : tie.Need-same-length-2 Inv-loop μ-loop
+same-length-2 c = search needs
+
+returns-2 : tie.Need-returns-2 Inv-loop μ-loop
+returns-2 c =
+    let w = written-on _ _ _ _ _ _ (c .before .before .before .before .before .before .before .before .before .loop .inv .0) (c .before .before .before .before .before .before .pack-eight2 .ensures) (omega arith) in
+    written-end _ _ _ _ _ w (c .before .before .pack-rest2 .ensures)
 
 pub pack-text-spec : {M : Type 1} → statement M
 pack-text-spec =
@@ -49,12 +62,15 @@ pack-text-spec =
     (tie.spec
     Inv-loop
     μ-loop
+    pack-rest-requires
+    same-length
+    returns
     loop-holds
-    sub-loop
     pack-eight-requires
     add-i
     loop-less
     loop-again
-    pack-rest-requires
-    same-length
-    returns)
+    pack-eight-requires-2
+    pack-rest-requires-2
+    same-length-2
+    returns-2)
