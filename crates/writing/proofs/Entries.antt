@@ -1,15 +1,15 @@
 -- An item that is found at a place of a sheet, and the attribute that it gives. Assumes nothing.
 use mathlib.Core.Path.{_≡_, refl, ap, _∙_}
-use mathlib.Core.Bool.{Bool, true, false, cond}
+use mathlib.Core.Bool.{Bool, true, false, cond, not, _&&_}
 use mathlib.Core.List.{List, [], _∷_, _++_}
 use Prim.Native.Nat.{ℕ, _+_, _-_, _<_, _≤_}
 use native.Mathlib.Omega.{arith}
-use lib.Dec.{T, leb, leb→le}
-use lib.ListN.{length, take, drop, length-append}
+use lib.Dec.{T, eqb, leb, leb→le}
+use lib.ListN.{length, take, drop, getD, length-append}
 use Rattle.meaning.specs.Octets.{Octets}
 use Rattle.meaning.specs.Framing.{isPlain, headLength}
 use Rattle.meaning.specs.Sheet.{attributeOctets, carries, storedLength, holds, refused}
-use Rattle.meaning.proofs.Octets.{octets-take, octets-drop}
+use Rattle.meaning.proofs.Octets.{octet-at, octets-take, octets-drop}
 use Rattle.meaning.proofs.Tests.{parts}
 use Rattle.meaning.proofs.Framing.{plain-lines, gpp-lines}
 use Rattle.meaning.proofs.Items.{entered-holds}
@@ -31,7 +31,7 @@ attribute-parts n v = go (isPlain n)
     go true = refl
     go false = refl
 
-pub head-long : (n k : ℕ) → length (attributeHead n k) ≡ headLength n
+head-long : (n k : ℕ) → length (attributeHead n k) ≡ headLength n
 unfolding attributeHead headLength
 head-long n k = go (isPlain n)
   where
@@ -55,7 +55,6 @@ pub record Entry (l : List ℕ) (p n : ℕ) (v : List ℕ) (k behind : ℕ) : Ty
   pub size : ℕ
   pub entered-is : enteredAt l p ≡ holds n v size
   pub behind-is : behind ≡ p + size
-  pub low : n < 512
   pub value-long : length v ≡ k
   pub short : headLength n + k < 256
 
@@ -77,6 +76,13 @@ module _ (l : List ℕ) (p : ℕ) (o : Octets l) (r : Headed) (says : r ≡ head
   pub behind-head : p + 4 ≤ behind
   behind-head = omega (arith, head .behind-is)
 
+  pub number-low : n < 512
+  number-low = rw (head .number-is) (go (eqb (getD l p 0) 26 && not (eqb (getD l (p + 2) 0) 0)))
+    where
+      go : (b : Bool) → cond b (256 + getD l (p + 1) 0) (getD l p 0) < 512
+      go true = omega (arith, octet-at l (p + 1) o)
+      go false = omega (arith, octet-at l p o)
+
   pub stored-size : length stored-here ≡ storedLength f c
   stored-size = size-stored l p o r says n f c behind head
 
@@ -94,7 +100,6 @@ module _ (l : List ℕ) (p : ℕ) (o : Octets l) (r : Headed) (says : r ≡ head
         size = size;
         entered-is = here;
         behind-is = head .behind-is;
-        low = a .low;
         value-long = k .value-long;
         short = omega (arith, carried-short n (valueAs n f c stored-here) (a .carried), k .value-long);
       }

@@ -2,20 +2,22 @@
 -- nothing.
 use mathlib.Core.Path.{_≡_, refl, sym, ap, _∙_}
 use mathlib.Core.Bool.{Bool, true, false, cond, _&&_, and-true}
-use mathlib.Core.List.{List, [], _∷_}
-use Prim.Native.Nat.{ℕ, _+_, _*_, _-_, _/_, _%_, _<_, _≤_}
+use mathlib.Core.List.{List, [], _∷_, _++_, append-assoc}
+use Prim.Native.Nat.{ℕ, zero, suc, _+_, _*_, _-_, _/_, _%_, _<_, _≤_}
+use native.Mathlib.Nat.{zero-add, suc-add}
 use native.Mathlib.Omega.{arith}
 use lib.Dec.{eqb, ltb}
 use borrow.Author.Tests.{lt-ltb, le-ltb, le-leb, lt-leb}
-use lib.ListN.{length, take, drop, getD, set, length-drop}
-use lib.Seq.{take-all}
+use lib.ListN.{length, take, drop, getD, set, length-drop, length-set}
+use lib.Seq.{take-all, take-suc, length-take-le}
 use Rattle.meaning.specs.Octets.{digitText, text, unpack}
 use Rattle.meaning.specs.Framing.{headLength}
 use Rattle.meaning.specs.Sheet.{marked}
-use Rattle.octets.specs.Parts.{laidAt}
+use Rattle.octets.specs.Parts.{laidAt, Begun}
 use Rattle.octets.proofs.Overs.{each-laid, laid-two}
+use Rattle.octets.proofs.Begun.{begun-laid, begun-on}
 use Rattle.item.proofs.Texts.{whole-length}
-use Rattle.writing.specs.Attributes.{attributeHead, profileText}
+use Rattle.writing.specs.Attributes.{attributeHead, attributeFront, lengthsAt, profileText}
 
 -- an attribute's head has two octets at least
 pub head-two : (n : ℕ) → 2 ≤ headLength n
@@ -35,23 +37,66 @@ head-eight n = go (ltb n 256)
     go true = omega arith
     go false = omega arith
 
+-- ---- Octets that stand at a place of a buffer
+
+-- One stands there with the octet behind it.
+begun-one : (at x : ℕ) (d out : List ℕ) → at + 2 ≤ length d → out ≡ laidAt at (x ∷ []) d → Begun at (x ∷ getD out (at + 1) 0 ∷ []) d out
+begun-one at x d out room e =
+    let b = begun-laid at (x ∷ []) d out (omega arith) e in
+    let two : at + 2 ≡ suc (at + 1) = omega arith in
+    record {
+      kept = b .kept;
+      is = ap (λ (k : ℕ). take k out) two ∙ take-suc out (at + 1) 0 (omega (arith, b .kept)) ∙ ap (λ (l : List ℕ). l ++ (getD out (at + 1) 0 ∷ [])) (b .is)
+          ∙ append-assoc (take at d) (x ∷ []) (getD out (at + 1) 0 ∷ []);
+    }
+
+take-set : (n : ℕ) (l : List ℕ) (i x : ℕ) → take n (set l i x) ≡ set (take n l) i x
+take-set zero l i x = refl
+take-set (suc n) [] i x = refl
+take-set (suc n) (y ∷ l) zero x = refl
+take-set (suc n) (y ∷ l) (suc i) x = ap (λ (r : List ℕ). y ∷ r) (take-set n l i x)
+
+set-behind : (s t : List ℕ) (i x : ℕ) → set (s ++ t) (length s + i) x ≡ s ++ set t i x
+set-behind [] t i x = ap (λ (k : ℕ). set t k x) (zero-add i)
+set-behind (y ∷ s) t i x = ap (λ (k : ℕ). set (y ∷ (s ++ t)) k x) (suc-add (length s) i) ∙ ap (λ (r : List ℕ). y ∷ r) (set-behind s t i x)
+
+-- Where one of them is stored again, the others stand as they did.
+begun-set : (at : ℕ) (s d out : List ℕ) (i x : ℕ) → at ≤ length d → Begun at s d out → Begun at (set s i x) d (set out (at + i) x)
+begun-set at s d out i x h b =
+    record {
+      kept = length-set out (at + i) x ∙ b .kept;
+      is = ap (λ (k : ℕ). take (at + k) (set out (at + i) x)) (length-set s i x) ∙ take-set (at + length s) out (at + i) x ∙ ap (λ (l : List ℕ). set l (at + i) x) (b .is)
+          ∙ ap (λ (k : ℕ). set (take at d ++ s) (k + i) x) (sym (length-take-le at d h))
+          ∙ set-behind (take at d) s i x;
+    }
+
 -- ---- The head of an attribute
 
-plain-head : (n k : ℕ) → n < 256 → n ∷ (k + 2) ∷ [] ≡ attributeHead n k
-unfolding attributeHead
-plain-head n k h = rw (lt-ltb n 256 h)
+pub plain-front : (n at : ℕ) (d : List ℕ) → n < 256 → at + headLength n ≤ length d → set d at n ≡ laidAt at (attributeFront n) d
+unfolding attributeFront
+plain-front n at d h room = each-laid at (n ∷ []) d (omega (arith, head-two n)) 0 refl ∙ rw (lt-ltb n 256 h)
 
-pub plain-laid : (n k at : ℕ) (d : List ℕ) → n < 256 → at + headLength n ≤ length d → set (set d at n) (at + 1) (k + 2) ≡ laidAt at (attributeHead n k) d
-plain-laid n k at d h room = each-laid at (n ∷ (k + 2) ∷ []) d (omega (arith, head-two n)) 1 refl ∙ ap (λ (s : List ℕ). laidAt at s d) (plain-head n k h)
+pub gpp-front : (n at : ℕ) (d first out : List ℕ) → 256 ≤ n → at + 8 ≤ length d → first ≡ laidAt at (26 ∷ 0 ∷ 0 ∷ 0 ∷ []) d → out ≡ laidAt (at + 4) (40 ∷ 175 ∷ (n - 256) ∷ 0 ∷ []) first → out ≡ laidAt at (attributeFront n) d
+unfolding attributeFront
+gpp-front n at d first out h room f e =
+    e ∙ rw (f, le-ltb n 256 h) (laid-two at 4 (26 ∷ 0 ∷ 0 ∷ 0 ∷ []) (40 ∷ 175 ∷ (n - 256) ∷ 0 ∷ []) d refl room)
 
-gpp-head : (n k : ℕ) → 256 ≤ n → 26 ∷ (k + 8) ∷ 0 ∷ 0 ∷ 40 ∷ 175 ∷ (n - 256) ∷ (k + 2) ∷ [] ≡ attributeHead n k
-unfolding attributeHead
-gpp-head n k h = rw (le-ltb n 256 h)
-
-pub gpp-laid : (n k at : ℕ) (d first out : List ℕ) → 256 ≤ n → at + 8 ≤ length d → first ≡ laidAt at (26 ∷ (k + 8) ∷ 0 ∷ 0 ∷ []) d → out ≡ laidAt (at + 4) (40 ∷ 175 ∷ (n - 256) ∷ (k + 2) ∷ []) first → out ≡ laidAt at (attributeHead n k) d
-gpp-laid n k at d first out h room f e =
-    e ∙ rw f (laid-two at 4 (26 ∷ (k + 8) ∷ 0 ∷ 0 ∷ []) (40 ∷ 175 ∷ (n - 256) ∷ (k + 2) ∷ []) d refl room)
-    ∙ ap (λ (s : List ℕ). laidAt at s d) (gpp-head n k h)
+-- The front, the value behind it and then the lengths: the head and the value stand there.
+pub head-stands : (n k at : ℕ) (v d front first out : List ℕ) → at + headLength n ≤ length d → front ≡ laidAt at (attributeFront n) d → Begun (at + headLength n) v front first → out ≡ lengthsAt at (headLength n) k first → Begun at (attributeHead n k ++ v) d out
+unfolding attributeFront attributeHead lengthsAt headLength
+head-stands n k at v d front first out room f w e = go (ltb n 256) room f w e
+  where
+    go : (b : Bool) → at + cond b 2 8 ≤ length d → front ≡ laidAt at (cond b (n ∷ []) (26 ∷ 0 ∷ 0 ∷ 0 ∷ 40 ∷ 175 ∷ (n - 256) ∷ 0 ∷ [])) d → Begun (at + cond b 2 8) v front first → out ≡ set (set first (at + cond b 2 8 - 1) (k + 2)) (at + 1) (k + cond b 2 8) → Begun at (cond b (n ∷ (k + 2) ∷ []) (26 ∷ (k + 8) ∷ 0 ∷ 0 ∷ 40 ∷ 175 ∷ (n - 256) ∷ (k + 2) ∷ []) ++ v) d out
+    go true room f w e =
+        let x : ℕ = getD front (at + 1) 0 in
+        let last : at + 2 - 1 ≡ at + 1 = omega arith in
+        let b = begun-on at (at + 2) (n ∷ x ∷ []) v d front first refl (begun-one at n d front room f) w in
+        rw (e, last) (begun-set at (n ∷ (k + 2) ∷ v) d _ 1 (k + 2) (omega arith) (begun-set at (n ∷ x ∷ v) d first 1 (k + 2) (omega arith) b))
+    go false room f w e =
+        let s : List ℕ = 26 ∷ 0 ∷ 0 ∷ 0 ∷ 40 ∷ 175 ∷ (n - 256) ∷ 0 ∷ [] in
+        let last : at + 8 - 1 ≡ at + 7 = omega arith in
+        let b = begun-on at (at + 8) s v d front first refl (begun-laid at s d front room f) w in
+        rw (e, last) (begun-set at (26 ∷ 0 ∷ 0 ∷ 0 ∷ 40 ∷ 175 ∷ (n - 256) ∷ (k + 2) ∷ v) d _ 1 (k + 8) (omega arith) (begun-set at (s ++ v) d first 7 (k + 2) (omega arith) b))
 
 -- ---- A QoS profile
 

@@ -13,16 +13,17 @@ use Rattle.meaning.specs.Refusals.{none, refusal, fault}
 use Rattle.meaning.specs.Sheet.{attributeOctets, areaOf, itemsIn, areaIn, refused}
 use Rattle.area.specs.declared.Refusal.{Refusal}
 use Rattle.octets.specs.Parts.{partOf, laidAt, Begun}
-use Rattle.octets.proofs.Begun.{begun-as, begun-before}
+use Rattle.octets.proofs.Begun.{begun-as}
 use Rattle.item.specs.declared.Headed.{Headed}
 use Rattle.item.specs.declared.Headed.the-variants.{Item, Refused}
 use Rattle.item.specs.Stands.{standsAs}
 use Rattle.item.specs.Answers.{enteredAt, headedAt}
 use Rattle.item.proofs.Entering.{a-refusal}
 use Rattle.writing.specs.declared.Judged.the-variants.{Items, Broken}
-use Rattle.writing.specs.Attributes.{valueLength, valueAs, attributeHead, Valued}
+use Rattle.writing.specs.Attributes.{valueLength, valueAs, attributeHead, attributeFront, lengthsAt, Valued}
 use Rattle.writing.specs.Answers.{judgedOf, Transcribed}
-use Rattle.writing.proofs.Entries.{Entry, attribute-parts, attribute-long, head-long, stored-here, no-entry, entry-here}
+use Rattle.writing.proofs.Entries.{Entry, attribute-parts, attribute-long, stored-here, no-entry, entry-here}
+use Rattle.writing.proofs.Putting.{head-stands}
 use Rattle.writing.proofs.Walking.{itemsAt, items-start, items-enter, items-refuse, items-end, items-remain}
 
 -- The loop stands at a place with so many items left. The attributes before it have so many octets, and are what the buffer begins with
@@ -81,7 +82,7 @@ module _ (l d : List ℕ) (left place written : ℕ) (j : Transcribing l d left 
       broke l out x (ap (λ (p : ℕ). Broken (record { number = x .number; second = p })) (a .1) ∙ broken-here l d left place written (x .number) j some (a .0))
 
   -- an item, and what the writer of its value answered
-  module _ (n f c behind : ℕ) (q : r ≡ Item n f c behind) (at put : ℕ) (first : List ℕ) (v : Valued (at + headLength n) n f c (stored-here l place o r says n f c behind q) d put first) where
+  module _ (n f c behind : ℕ) (q : r ≡ Item n f c behind) (at put : ℕ) (front first : List ℕ) (v : Valued (at + headLength n) n f c (stored-here l place o r says n f c behind q) front put first) where
     -- the octets that it stores
     abbrev st : List ℕ
     st = stored-here l place o r says n f c behind q
@@ -112,9 +113,6 @@ module _ (l d : List ℕ) (left place written : ℕ) (j : Transcribing l d left 
       put-is : put ≡ valueLength f c
       put-is = v .says ∙ rw (stands h)
 
-      pub put-low : n < 512
-      put-low = e .low
-
       pub put-short : headLength n + put < 256
       put-short = omega (arith, e .short, put-is)
 
@@ -124,16 +122,16 @@ module _ (l d : List ℕ) (left place written : ℕ) (j : Transcribing l d left 
       size : length attribute ≡ headLength n + put
       size = attribute-long n (valueAs n f c st) ∙ omega (arith, e .value-long, put-is)
 
-      stands-here : (out : List ℕ) → at + headLength n ≤ length d → out ≡ laidAt at (attributeHead n put) first → Begun at attribute d out
-      stands-here out room p =
+      stands-here : (out : List ℕ) → at + headLength n ≤ length d → front ≡ laidAt at (attributeFront n) d → out ≡ lengthsAt at (headLength n) put first → Begun at attribute d out
+      stands-here out room g p =
           begun-as at (attributeHead n put ++ valueAs n f c st) attribute d out
           (attribute-parts n (valueAs n f c st) ∙ ap (λ (k : ℕ). attributeHead n k ++ valueAs n f c st) (e .value-long ∙ sym put-is))
-          (begun-before at (at + headLength n) (attributeHead n put) (valueAs n f c st) d first out (ap (λ (k : ℕ). at + k) (head-long n put)) room (v .is (stands h)) p)
+          (head-stands n put at (valueAs n f c st) d front first out room g (v .is (stands h)) p)
 
-      pub transcribing-more : (out : List ℕ) → 263 ≤ length d → at ≡ min written (length d - 263) → out ≡ laidAt at (attributeHead n put) first → Transcribing l out (left - 1) behind (written + (headLength n + put))
+      pub transcribing-more : (out : List ℕ) → 263 ≤ length d → at ≡ min written (length d - 263) → front ≡ laidAt at (attributeFront n) d → out ≡ lengthsAt at (headLength n) put first → Transcribing l out (left - 1) behind (written + (headLength n + put))
       unfolding fault attributes areaOf
-      transcribing-more out room place-is p =
-          let b = stands-here out (omega (arith, put-short)) p in
+      transcribing-more out room place-is g p =
+          let b = stands-here out (omega (arith, put-short)) g p in
           let w : itemsAt l left place ≡ next (record { place = place; number = n; value = valueAs n f c st }) (itemsAt l (left - 1) behind) =
           items-enter l left place n (valueAs n f c st) (e .size) some (e .entered-is)
           ∙ ap (λ (b : ℕ). next (record { place = place; number = n; value = valueAs n f c st }) (itemsAt l (left - 1) b)) (sym (e .behind-is)) in

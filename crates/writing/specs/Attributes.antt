@@ -5,7 +5,7 @@ use Prim.Native.Nat.{ℕ, _+_, _*_, _-_, _/_, _%_}
 use mathlib.Core.Bool.{Bool, true, cond, _&&_}
 use mathlib.Core.List.{List, [], _∷_}
 use lib.Dec.{eqb}
-use lib.ListN.{length, drop, getD}
+use lib.ListN.{length, drop, getD, set}
 use Rattle.meaning.specs.Octets.{digitText, text, unpack}
 use Rattle.meaning.specs.Framing.{isPlain}
 use Rattle.meaning.specs.Shapes.{shapeOf}
@@ -22,6 +22,14 @@ valueLength f c = cond (eqb f 5) (2 * c) (cond (eqb f 6) (1 + 2 * c) c)
 unfoldable pub attributeHead : (number k : ℕ) → List ℕ
 attributeHead n k =
     cond (isPlain n) (n ∷ (k + 2) ∷ []) (26 ∷ (k + 8) ∷ 0 ∷ 0 ∷ 40 ∷ 175 ∷ (n - 256) ∷ (k + 2) ∷ [])
+
+-- what is laid of it before the value, by the number alone: but for the lengths, 0 where they are to stand
+unfoldable pub attributeFront : (number : ℕ) → List ℕ
+attributeFront n = cond (isPlain n) (n ∷ []) (26 ∷ 0 ∷ 0 ∷ 0 ∷ 40 ∷ 175 ∷ (n - 256) ∷ 0 ∷ [])
+
+-- the buffer d with the lengths in the head of h octets that stands at a place, before a value of k octets
+unfoldable pub lengthsAt : (at h k : ℕ) (d : List ℕ) → List ℕ
+lengthsAt at h k d = set (set d (at + h - 1) (k + 2)) (at + 1) (k + h)
 
 -- "text "98-" and 6 hexadecimal digits .. or "99-" and 22": the text of a QoS profile
 unfoldable pub profileText : List ℕ → List ℕ

@@ -14,7 +14,7 @@ ghost use Rattle.meaning.specs.Answers.{over};
 ghost use Rattle.octets.specs.Parts.{laidAt};
 ghost use Rattle.meaning.specs.Framing.{headLength};
 ghost use Rattle.shape.specs.Codes.{codeOf};
-ghost use Rattle.writing.specs.Attributes.{profileText, attributeHead, Digited, Foured, Valued};
+ghost use Rattle.writing.specs.Attributes.{profileText, attributeFront, lengthsAt, Digited, Foured, Valued};
 ghost use Rattle.writing.specs.Answers.{Accepted, Ready, Holding, Transcribed, Wrote};
 
 // What writing answers: the octets of the area that stands at the buffer's start, with the kind and flags of the sheet, or a refusal.
@@ -40,19 +40,27 @@ fn put_four(buf: &mut [u8], at: usize, four: [u8; 4])
     buf[at + 3] = four[3];
 }
 
-// Lays the head of an attribute whose value has so many octets.
-fn put_head(buf: &mut [u8], at: usize, number: u16, len: usize)
-    requires { ⌜ (number < 512) × ((headLength number + len < 256) × (at + headLength number ≤ length (now buf))) ⌝ }
-    ensures { λ _. ⌜ now (buf .exit) ≡ laidAt at (attributeHead number len) (now (buf .entry)) ⌝ }
+// Lays what stands before an attribute's value but for its lengths: the type, or type 26, the vendor id and the sub-attribute number.
+fn put_front(buf: &mut [u8], at: usize, number: u16)
+    requires { ⌜ (number < 512) × (at + headLength number ≤ length (now buf)) ⌝ }
+    ensures { λ _. ⌜ now (buf .exit) ≡ laidAt at (attributeFront number) (now (buf .entry)) ⌝ }
 {
-    let own = (len + 2) as u8;
     if number < 256 {
         buf[at] = number as u8;
-        buf[at + 1] = own;
         return;
     }
-    put_four(buf, at, [26, (len + 8) as u8, 0, 0]);
-    put_four(buf, at + 4, [40, 175, (number - 256) as u8, own]);
+    put_four(buf, at, [26, 0, 0, 0]);
+    put_four(buf, at + 4, [40, 175, (number - 256) as u8, 0]);
+}
+
+// Lays the lengths in the head of an attribute whose value has so many octets: that of the sub-attribute, and that of the whole. A plain
+// attribute has one, in the one place.
+fn put_lengths(buf: &mut [u8], at: usize, head: usize, put: usize)
+    requires { ⌜ (2 ≤ head) × ((head + put < 256) × (at + head ≤ length (now buf))) ⌝ }
+    ensures { λ _. ⌜ now (buf .exit) ≡ lengthsAt at head put (now (buf .entry)) ⌝ }
+{
+    buf[at + head - 1] = (put + 2) as u8;
+    buf[at + 1] = (put + head) as u8;
 }
 
 // Lays the text of a QoS profile: the release's two digits, a dash, then the hexadecimal digits.
@@ -218,6 +226,7 @@ fn transcribe(sheet: &[u8], buf: &mut [u8]) -> Judged
             } => {
                 let at = octets::least(written, last);
                 let head = area::head_len(number);
+                put_front(buf, at, number);
                 let put = put_value(buf, at + head, number, form, count, &sheet[place + 4..next]);
                 if put == 256 {
                     return Judged::Broken(Refusal {
@@ -225,7 +234,7 @@ fn transcribe(sheet: &[u8], buf: &mut [u8]) -> Judged
                         second: place,
                     });
                 }
-                put_head(buf, at, number, put);
+                put_lengths(buf, at, head, put);
                 written += head + put;
                 place = next;
                 left -= 1;
@@ -301,7 +310,7 @@ pub fn write(sheet: &[u8], area: &mut [u8]) -> Writing
             second: 0,
         });
     }
-    let mut short = [0u8; 768];
+    let mut short = [0u8; 640];
     match transcribe(sheet, &mut short) {
         Judged::Broken(refusal) => {
             return Writing::Refused(refusal);
