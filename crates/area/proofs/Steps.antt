@@ -1,11 +1,9 @@
 -- For a caller of `step_at`: what the walk over the area meets at the place, by the answer. Assumes nothing.
 use mathlib.Core.Path.{_≡_, refl, sym, subst, _∙_}
-use mathlib.Core.List.{List, [], _∷_}
-use Prim.Native.Nat.{ℕ, suc, _+_, _-_, _≤_}
+use mathlib.Core.List.{List}
+use Prim.Native.Nat.{ℕ, _+_, _-_, _≤_}
 use native.Mathlib.Omega.{arith}
-use mir.Syntax.{w8}
-use mir.Val.{Fits}
-use lib.ListN.{length, take, drop, getD, length-drop}
+use lib.ListN.{length, take, drop, length-drop}
 use lib.Seq.{drop-drop}
 use Rattle.meaning.specs.Octets.{Octets}
 use Rattle.meaning.specs.Framing.{Attribute, Found, attribute, refused, nothing, foundAt, end, broken, next, walkAt}
@@ -18,11 +16,6 @@ use Rattle.area.specs.declared.Refusal.{Refusal}
 use Rattle.area.specs.declared.Part.{Part}
 use Rattle.area.specs.declared.Step.{Step}
 use Rattle.area.specs.declared.Step.the-variants as step
-
--- An area holds octets, by what is known of the elements of a slice.
-pub slice-octets : (l : List ℕ) → ((i : ℕ) → Fits w8 (getD l i 0)) → Octets l
-slice-octets [] known = tt
-slice-octets (x ∷ l) known = (omega (arith, known 0), slice-octets l (λ i. known (suc i)))
 
 -- an attribute of the area l, its value given as a part
 abbrev pub attributeIn : (l : List ℕ) (place number : ℕ) → Part → Attribute

@@ -16,16 +16,10 @@ use Rattle.meaning.specs.Sheet.{typeOf, subOf, formOf, storedOf, valueOf, decod
 use Rattle.meaning.proofs.Tests.{both, parts, either, is-true, passes, same-one, same-itself}
 use Rattle.meaning.proofs.Packing.{unpack-length}
 use Rattle.meaning.proofs.Forms.{released, raw-low, either-way, Decoded, Plainly}
+use Rattle.octets.proofs.EachOne.{same-test}
 use Rattle.shape.proofs.Codes.{fifteen, at-most-fifteen}
 use Rattle.item.specs.Stands.{standsFor, raw, held, shaped}
 use Rattle.item.proofs.Texts.{text-length}
-
--- tests that pass together are the same
-same-test : (a b : Bool) → (T a → T b) → (T b → T a) → a ≡ b
-same-test true true h g = refl
-same-test true false h g = absurd (h tt)
-same-test false true h g = absurd (g tt)
-same-test false false h g = refl
 
 -- ---- The head
 

@@ -86,7 +86,8 @@ judged-holds n v it n′ v′ size e = go (carries n v && same (item n v) it) re
         }
     go false q e = absurd (let z : _≡_ {A = ℕ} 0 1 = cc in omega arith)
 
-number-low : (t s f : ℕ) → t < 256 → s < 256 → numberIn t s f < 512
+-- The number that a head names is carried by some attribute.
+pub number-low : (t s f : ℕ) → t < 256 → s < 256 → numberIn t s f < 512
 number-low t s f h g = go (eqb t 26 && not (eqb f 0))
   where
     go : (b : Bool) → cond b (gpp s) t < 512

@@ -1,21 +1,25 @@
 -- A test at each of a list, by a loop from the left or from the end, one by one or by parts: once over the test. Assumes nothing.
 use mathlib.Core.Path.{_≡_, refl, sym, ap, ap₂, _∙_}
 use mathlib.Core.Bool.{Bool, true, false, _&&_, and-true, and-false, and-assoc}
-use mathlib.Core.List.{List, [], _∷_}
+use mathlib.Core.List.{List, [], _∷_, _++_}
 use Prim.Native.Nat.{ℕ, zero, suc, _+_, _-_, _%_, _<_, _≤_}
 use native.Mathlib.Numerals.{add-one}
 use native.Mathlib.Omega.{arith}
-use lib.ListN.{length, take, drop, getD, drop-of-length-le}
+use lib.Dec.{T}
+use lib.ListN.{length, take, drop, getD, drop-of-length-le, take-append-drop}
 use lib.Seq.{drop-cons, drop-drop}
 use Rattle.meaning.specs.Octets.{all}
 use Rattle.octets.specs.Parts.{partOf}
 use Rattle.octets.proofs.Parts.{part-rest}
 
--- the test of all is that of the first n with that of the rest
+-- the test of two lists, one behind the other, is that of both
+pub all-append : (p : ℕ → Bool) (s t : List ℕ) → all p (s ++ t) ≡ all p s && all p t
+all-append p [] t = refl
+all-append p (x ∷ s) t = ap (λ (b : Bool). p x && b) (all-append p s t) ∙ sym (and-assoc (p x) (all p s) (all p t))
+
+-- so the test of all is that of the first n with that of the rest
 all-split : (p : ℕ → Bool) (s : List ℕ) (n : ℕ) → all p s ≡ all p (take n s) && all p (drop n s)
-all-split p s zero = refl
-all-split p [] (suc n) = refl
-all-split p (x ∷ s) (suc n) = ap (λ (b : Bool). p x && b) (all-split p s n) ∙ sym (and-assoc (p x) (all p (take n s)) (all p (drop n s)))
+all-split p s n = ap (all p) (sym (take-append-drop n s)) ∙ all-append p (take n s) (drop n s)
 
 -- what fails from a place on decides, and so does a part that fails
 rest-fails : (p : ℕ → Bool) (s : List ℕ) (i : ℕ) → all p (drop i s) ≡ false → all p s ≡ false
@@ -34,6 +38,13 @@ rest-passes p s i e = go (all p (drop i s)) refl
     go false f = sym (rest-fails p s i f) ∙ e
 
 -- ---- From the left
+
+-- tests that pass together are the same
+pub same-test : (a b : Bool) → (T a → T b) → (T b → T a) → a ≡ b
+same-test true true h g = refl
+same-test true false h g = absurd (h tt)
+same-test false true h g = absurd (g tt)
+same-test false false h g = refl
 
 -- ok is the test of the first i, so the test of all is ok with that of the rest
 pub record Tested (p : ℕ → Bool) (s : List ℕ) (i : ℕ) (ok : Bool) : Type 0 where
@@ -82,6 +93,21 @@ pub one-fails : (p : ℕ → Bool) (s : List ℕ) (i : ℕ) → i < length s →
 one-fails p [] i h e = absurd (omega arith)
 one-fails p (x ∷ s) zero h e = rw e
 one-fails p (x ∷ s) (suc i) h e = rw (one-fails p s i (omega arith) e) (and-false (p x))
+
+-- a start and an end that leave nothing out
+pub all-covered : (p : ℕ → Bool) (s : List ℕ) (j k : ℕ) → j ≤ k → all p (take k s) && all p (drop j s) ≡ all p s
+all-covered p [] zero zero h = refl
+all-covered p [] zero (suc k) h = refl
+all-covered p [] (suc j) zero h = refl
+all-covered p [] (suc j) (suc k) h = refl
+all-covered p (x ∷ s) zero zero h = refl
+all-covered p (x ∷ s) zero (suc k) h = twice (p x) (all p (take k s)) (all p s) (all-covered p s zero k (omega arith))
+  where
+    twice : (a b c : Bool) → b && c ≡ c → (a && b) && (a && c) ≡ a && c
+    twice true b c e = e
+    twice false b c e = refl
+all-covered p (x ∷ s) (suc j) zero h = absurd (omega arith)
+all-covered p (x ∷ s) (suc j) (suc k) h = and-assoc (p x) (all p (take k s)) (all p (drop j s)) ∙ ap (λ (b : Bool). p x && b) (all-covered p s j k (omega arith))
 
 -- ---- From the end, by twos
 

@@ -1,23 +1,47 @@
--- Digits gathered in one number, two at a time from the end of a text: eight octets, with 15s behind the digits. Assumes nothing.
+-- Digits gathered in one number, eight octets with 15s behind the digits: two at a time from the end of a text, or eight at a time.
+-- Assumes nothing.
 use mathlib.Core.Path.{_≡_, refl, sym, ap, ap₂, _∙_}
-use mathlib.Core.Bool.{Bool, true, false, _&&_}
-use mathlib.Core.List.{List, [], _∷_}
-use Prim.Native.Nat.{ℕ, suc, _+_, _*_, _-_, _/_, _%_, _^_, _<_, _≤_}
+use mathlib.Core.Bool.{Bool, true, false, _&&_, and-false}
+use mathlib.Core.List.{List, [], _∷_, _++_, map-append}
+use Prim.Native.Nat.{ℕ, zero, suc, _+_, _*_, _-_, _/_, _%_, _^_, _<_, _≤_}
+use native.Mathlib.Nat.{pow-le-pow-right}
 use native.Mathlib.Omega.{arith}
-use borrow.Author.Tests.{leb-true}
+use borrow.Author.Tests.{leb-true, leb-false, le-leb, lt-leb}
 use lib.Dec.{T, leb}
-use lib.ListN.{length, drop, getD, length-drop, drop-of-length-le}
+use lib.ListN.{length, take, drop, getD, length-append, length-drop, drop-of-length-le}
 use lib.Seq.{drop-cons}
-use Rattle.meaning.specs.Octets.{all, numberOf, octetsOf, pack, unpack, isDigit, digitValue, values}
+use Rattle.meaning.specs.Octets.{Octets, all, numberOf, octetsOf, pack, packedLength, unpack, isDigit, digitValue, values}
 use Rattle.meaning.specs.Answers.{over}
-use Rattle.meaning.proofs.Numbers.{number-snoc, octets-back}
+use Rattle.meaning.proofs.Octets.{octets-append}
+use Rattle.meaning.proofs.Numbers.{number-fits, number-snoc, octets-back}
 use Rattle.meaning.proofs.Packing.{Halves, pack-length, pack-octets, unpack-pack, values-length, values-halves, digits-hexes}
 use Rattle.meaning.proofs.Tests.{both, parts, passes, is-true}
 use Rattle.octets.specs.declared.Digits.{Digits}
-use Rattle.octets.specs.DigitStrings.{padded, digitsOf, gotOf}
-use Rattle.octets.proofs.EachOne.{one-fails}
+use Rattle.octets.specs.Parts.{partOf}
+use Rattle.octets.specs.DigitStrings.{padded, digitsOf, gatheredOf, gotOf, heldOf}
+use Rattle.octets.proofs.Parts.{part-within, part-rest, part-octets}
+use Rattle.octets.proofs.EachOne.{one-fails, all-append, all-covered}
 use Rattle.octets.proofs.Halves.{padded-length, padded-halves, padded-more}
-use Rattle.octets.proofs.DigitStrings.{got-other, got-whole}
+use Rattle.octets.proofs.DigitStrings.{got-long, got-other, got-whole}
+use Rattle.octets.proofs.Eights.{valueIn, number-in, value-append, value-packed, value-filled, long-filled, short-filled}
+
+-- ---- What a text gives
+
+module _ (l : List ℕ) where
+  gathered-digits : length l ≤ 15 → all isDigit l ≡ true → gatheredOf l ≡ numberOf (pack (padded 15 15 (values l)))
+  unfolding gatheredOf
+  gathered-digits few e = simp (le-leb (length l) 15 few, e)
+
+  -- 0 of a text that has another octet, or is too long
+  pub gathered-other : all isDigit l ≡ false → gatheredOf l ≡ 0
+  unfolding gatheredOf
+  gathered-other e = simp (e, and-false)
+
+  pub gathered-long : 15 < length l → gatheredOf l ≡ 0
+  unfolding gatheredOf
+  gathered-long h = simp (lt-leb (length l) 15 h)
+
+-- ---- Two at a time from the end
 
 -- an octet put before those of the digits l makes those of the digits m
 put-before : (l m : List ℕ) (o : ℕ) → length l ≤ 13 → pack (padded 15 15 m) ≡ o ∷ pack (padded 13 15 l) → o * 256 ^ 7 + numberOf (pack (padded 15 15 l)) / 256 ≡ numberOf (pack (padded 15 15 m))
@@ -90,27 +114,165 @@ module _ (text : List ℕ) (i p : ℕ) (u : Gathered text i p) where
       }
 
   -- one of two octets that is no digit decides
-  pub gathered-not : 0 < i → isDigit (getD text (i - 2) 0) && isDigit (getD text (i - 1) 0) ≡ false → gotOf text ≡ digitsOf []
-  gathered-not h e = got-other text (go (isDigit (getD text (i - 2) 0)) (isDigit (getD text (i - 1) 0)) refl refl e)
+  pub gathered-not : 0 < i → isDigit (getD text (i - 2) 0) && isDigit (getD text (i - 1) 0) ≡ false → gatheredOf text ≡ 0
+  gathered-not h e = gathered-other text (go (isDigit (getD text (i - 2) 0)) (isDigit (getD text (i - 1) 0)) refl refl e)
     where
       go : (a b : Bool) → isDigit (getD text (i - 2) 0) ≡ a → isDigit (getD text (i - 1) 0) ≡ b → a && b ≡ false → all isDigit text ≡ false
       go true true f g k = absurd (passes false (sym k))
       go true false f g k = one-fails isDigit text (i - 1) (omega (arith, u .within)) g
       go false b f g k = one-fails isDigit text (i - 2) (omega (arith, u .within)) f
 
-  -- What is gathered of the whole text, spread again, is what is got.
-  pub gathered-all : i ≤ 0 → length text ≤ 15 → {d : Digits} → d .octets ≡ unpack 15 (octetsOf 8 p) → d .len ≡ length text → d ≡ gotOf text
-  unfolding digitsOf
-  gathered-all h few oe le =
+  pub gathered-all : i ≤ 0 → length text ≤ 15 → p ≡ gatheredOf text
+  gathered-all h few =
       let none : i ≡ 0 = omega arith in
       let t : T (all isDigit text) = rw none at (u .digits) in
-      let m : List ℕ = padded 15 15 (values text) in
-      let number : p ≡ numberOf (pack m) = rw none at (u .is) in
-      let size : length (values text) ≤ 15 = omega (arith, values-length text) in
-      let wide : length m ≡ 15 = padded-length (values text) 15 size in
-      let halves : Halves m = padded-halves (values text) 15 size (values-halves text (digits-hexes text t)) in
-      let eight : length (pack m) ≡ 8 = pack-length m ∙ ap (λ (n : ℕ). (n + 1) / 2) wide in
-      let back : octetsOf 8 p ≡ pack m = ap (octetsOf 8) number ∙ rw eight at (octets-back (pack m) (pack-octets m halves)) in
-      let o = oe ∙ ap (unpack 15) back ∙ rw wide at (unpack-pack m halves) in
-      let n = le ∙ sym (values-length text) in
-      (λ k. record { octets = o k; len = n k }) ∙ sym (got-whole text few t)
+      rw none at (u .is) ∙ sym (gathered-digits text few (is-true _ t))
+
+-- ---- Eight at a time
+
+-- what digits hold is what they stand for
+digits-held : (l : List ℕ) → T (all isDigit l) → heldOf (length l) l ≡ values l
+unfolding heldOf values
+digits-held [] t = refl
+digits-held (x ∷ l) t =
+    let p = parts (isDigit x) (all isDigit l) t in
+    ap₂ (λ (y : ℕ) (m : List ℕ). y ∷ m) (digit-half x (is-true _ (p .0))) (digits-held l (p .1))
+
+values-take : (k : ℕ) (l : List ℕ) → values (take k l) ≡ take k (values l)
+unfolding values
+values-take zero l = refl
+values-take (suc k) [] = refl
+values-take (suc k) (x ∷ l) = ap (λ (m : List ℕ). digitValue x ∷ m) (values-take k l)
+
+values-drop : (k : ℕ) (l : List ℕ) → values (drop k l) ≡ drop k (values l)
+unfolding values
+values-drop zero l = refl
+values-drop (suc k) [] = refl
+values-drop (suc k) (x ∷ l) = values-drop k l
+
+-- the low halves of eight octets that are digits
+low-value : (l : List ℕ) (n a : ℕ) → length l ≡ 8 → T (all isDigit l) → octetsOf 8 n ≡ l → a ≡ numberOf (pack (heldOf 8 (octetsOf 8 n))) → a ≡ valueIn 16 (values l)
+low-value l n a e t o h =
+    h ∙ ap (λ (m : List ℕ). numberOf (pack (heldOf 8 m))) o
+    ∙ ap (λ (m : List ℕ). numberOf (pack m)) (rw e at (digits-held l t))
+    ∙ value-packed (values l) (omega (arith, values-length l))
+
+module _ (text : List ℕ) where
+  whole-halves : all isDigit text ≡ true → Halves (values text)
+  whole-halves e = values-halves text (digits-hexes text (passes _ e))
+
+  -- the first and the last of a text cover it
+  ends-test : (n : ℕ) (k l : List ℕ) → n ≤ length text → length text ≤ n + n → k ≡ partOf text 0 n → l ≡ partOf text (length text - n) n → all isDigit k && all isDigit l ≡ all isDigit text
+  unfolding partOf
+  ends-test n k l some few ek el =
+      ap₂ (λ (x y : List ℕ). all isDigit x && all isDigit y) ek (el ∙ part-rest text (length text - n) n (omega arith))
+      ∙ all-covered isDigit text (length text - n) n (omega arith)
+
+  first-value : (n : ℕ) → valueIn 16 (values (partOf text 0 n)) ≡ valueIn 16 (take n (values text))
+  unfolding partOf
+  first-value n = ap (valueIn 16) (values-take n text)
+
+  last-value : (n : ℕ) → n ≤ length text → valueIn 16 (values (partOf text (length text - n) n)) ≡ valueIn 16 (drop (length (values text) - n) (values text))
+  last-value n h =
+      ap (λ (l : List ℕ). valueIn 16 (values l)) (part-rest text (length text - n) n (omega arith))
+      ∙ ap (valueIn 16) (values-drop (length text - n) text ∙ ap (λ (m : ℕ). drop (m - n) (values text)) (sym (values-length text)))
+
+  -- 8 to 15 digits
+  module _ (a b : ℕ) (some : 8 ≤ length text) (few : length text ≤ 15) (ea : octetsOf 8 a ≡ partOf text 0 8) (eb : octetsOf 8 b ≡ partOf text (length text - 8) 8) where
+    pub long-test : all isDigit (octetsOf 8 a) && all isDigit (octetsOf 8 b) ≡ all isDigit text
+    long-test = ends-test 8 (octetsOf 8 a) (octetsOf 8 b) some (omega arith) ea eb
+
+    pub long-gathered : all isDigit text ≡ true → (x y : ℕ) → x ≡ numberOf (pack (heldOf 8 (octetsOf 8 a))) → y ≡ numberOf (pack (heldOf 8 (octetsOf 8 b)))
+        → x * 4294967296 % 18446744073709551616 + (y * 2 ^ (4 * (16 - length text)) % 18446744073709551616 % 4294967296 + (1 * 2 ^ (4 * (16 - length text)) % 18446744073709551616 - 1)) ≡ gatheredOf text
+    long-gathered e x y ex ey =
+        let t = parts (all isDigit (octetsOf 8 a)) (all isDigit (octetsOf 8 b)) (passes _ (long-test ∙ e)) in
+        let n = values-length text in
+        let first : x ≡ valueIn 16 (take 8 (values text)) = low-value (partOf text 0 8) a x (part-within text 0 8 (omega arith)) (rw ea at (t .0)) ea ex ∙ first-value 8 in
+        let last : y ≡ valueIn 16 (drop (length (values text) - 8) (values text)) = low-value (partOf text (length text - 8) 8) b y (part-within text (length text - 8) 8 (omega arith)) (rw eb at (t .1)) eb ey ∙ last-value 8 some in
+        long-filled (values text) (whole-halves e) x y (16 - length text) (omega arith) (omega arith) (omega arith) first last
+        ∙ sym (gathered-digits text few e)
+
+  -- 4 to 7 digits
+  module _ (a b n : ℕ) (o : Octets text) (some : 4 ≤ length text) (few : length text ≤ 7) (ea : a ≡ numberOf (partOf text 0 4)) (eb : b ≡ numberOf (partOf text (length text - 4) 4)) (en : n ≡ a * 4294967296 + b) where
+    eight-octets : octetsOf 8 n ≡ partOf text 0 4 ++ partOf text (length text - 4) 4
+    eight-octets =
+        let k : List ℕ = partOf text 0 4 in
+        let l : List ℕ = partOf text (length text - 4) 4 in
+        let last : length l ≡ 4 = part-within text (length text - 4) 4 (omega arith) in
+        let size : length (k ++ l) ≡ 8 = length-append k l ∙ ap₂ (λ (x y : ℕ). x + y) (part-within text 0 4 (omega arith)) last in
+        let number : numberOf (k ++ l) ≡ n =
+        number-in (k ++ l) ∙ value-append 256 k l ∙ ap (λ (m : ℕ). valueIn 256 k * 256 ^ m + valueIn 256 l) last
+        ∙ ap₂ (λ (x y : ℕ). x * 4294967296 + y) (sym (ea ∙ number-in k)) (sym (eb ∙ number-in l)) ∙ sym en in
+        ap (octetsOf 8) (sym number) ∙ rw size at (octets-back (k ++ l) (octets-append k l (part-octets text 0 4 o) (part-octets text (length text - 4) 4 o)))
+
+    pub short-test : all isDigit (octetsOf 8 n) ≡ all isDigit text
+    short-test = ap (all isDigit) eight-octets ∙ all-append isDigit (partOf text 0 4) (partOf text (length text - 4) 4) ∙ ends-test 4 (partOf text 0 4) (partOf text (length text - 4) 4) some (omega arith) refl refl
+
+    pub short-gathered : all isDigit text ≡ true → (x : ℕ) → x ≡ numberOf (pack (heldOf 8 (octetsOf 8 n)))
+        → x / 65536 * 281474976710656 % 18446744073709551616 + ((x * 2 ^ (4 * (8 - length text)) % 18446744073709551616 % 65536 + (1 * 2 ^ (4 * (8 - length text)) % 18446744073709551616 - 1)) * 4294967296 % 18446744073709551616 + 4294967295) ≡ gatheredOf text
+    unfolding values
+    short-gathered e x ex =
+        let k : List ℕ = partOf text 0 4 in
+        let l : List ℕ = partOf text (length text - 4) 4 in
+        let m = values-length text in
+        let last : length l ≡ 4 = part-within text (length text - 4) 4 (omega arith) in
+        let size : length (k ++ l) ≡ 8 = length-append k l ∙ ap₂ (λ (y z : ℕ). y + z) (part-within text 0 4 (omega arith)) last in
+        let number : x ≡ valueIn 16 (values k) * 65536 + valueIn 16 (values l) =
+        low-value (k ++ l) n x size (rw eight-octets at (passes _ (short-test ∙ e))) eight-octets ex
+        ∙ ap (valueIn 16) (map-append digitValue k l) ∙ value-append 16 (values k) (values l) ∙ ap (λ (z : ℕ). valueIn 16 (values k) * 16 ^ z + valueIn 16 (values l)) (values-length l ∙ last) in
+        short-filled (values text) (whole-halves e) (valueIn 16 (values k)) (valueIn 16 (values l)) x (8 - length text) (omega arith) (omega arith) (omega arith) (first-value 4) (last-value 4 some) number
+        ∙ sym (gathered-digits text (omega arith) e)
+
+-- ---- What is got
+
+module _ (l : List ℕ) (few : length l ≤ 15) where
+  digits-wide : length (padded 15 15 (values l)) ≡ 15
+  digits-wide = padded-length (values l) 15 (omega (arith, values-length l))
+
+  digits-eight : length (pack (padded 15 15 (values l))) ≡ 8
+  digits-eight = pack-length (padded 15 15 (values l)) ∙ ap packedLength digits-wide
+
+  module _ (e : all isDigit l ≡ true) where
+    digits-halves : Halves (padded 15 15 (values l))
+    digits-halves = padded-halves (values l) 15 (omega (arith, values-length l)) (whole-halves l e)
+
+    -- what is gathered has 64 bits, and is not 0
+    pub gathered-fits : gatheredOf l < 18446744073709551616
+    gathered-fits = rw (gathered-digits l few e) (rw digits-eight at (number-fits (pack (padded 15 15 (values l))) (pack-octets (padded 15 15 (values l)) digits-halves)))
+
+    gathered-some : 0 < gatheredOf l
+    gathered-some =
+        let r : ℕ = 16 - length l in
+        let p : 16 ^ 1 ≤ 16 ^ r = pow-le-pow-right {n = 16} (omega arith) {i = 1} {j = r} (omega arith) in
+        rw (gathered-digits l few e, value-filled (values l) r (omega (arith, values-length l)) (omega arith)) (omega arith)
+
+    digits-back : octetsOf 8 (gatheredOf l) ≡ pack (padded 15 15 (values l))
+    digits-back = ap (octetsOf 8) (gathered-digits l few e) ∙ rw digits-eight at (octets-back (pack (padded 15 15 (values l))) (pack-octets (padded 15 15 (values l)) digits-halves))
+
+    spread-back : unpack 15 (octetsOf 8 (gatheredOf l)) ≡ padded 15 15 (values l)
+    spread-back = ap (unpack 15) digits-back ∙ rw digits-wide at (unpack-pack (padded 15 15 (values l)) digits-halves)
+
+-- where nothing is gathered, nothing is got
+pub got-nothing : (l : List ℕ) (p : ℕ) → p ≡ gatheredOf l → p ≡ 0 → gotOf l ≡ digitsOf []
+got-nothing l p e z = go (leb (length l) 15) (all isDigit l) refl refl
+  where
+    go : (a b : Bool) → leb (length l) 15 ≡ a → all isDigit l ≡ b → gotOf l ≡ digitsOf []
+    go false b f g = got-long l (leb-false (length l) 15 f)
+    go true false f g = got-other l g
+    go true true f g =
+        let few : length l ≤ 15 = leb-true (length l) 15 f in
+        absurd (omega (arith, gathered-some l few g))
+
+-- What is gathered, spread again, is what is got.
+pub got-gathered : (l : List ℕ) (p : ℕ) → p ≡ gatheredOf l → (p ≡ 0 → ⊥) → {d : Digits} → d .octets ≡ unpack 15 (octetsOf 8 p) → d .len ≡ length l → d ≡ gotOf l
+unfolding digitsOf
+got-gathered l p e some {d} oe le = go (leb (length l) 15) (all isDigit l) refl refl
+  where
+    go : (a b : Bool) → leb (length l) 15 ≡ a → all isDigit l ≡ b → d ≡ gotOf l
+    go false b f g = absurd (some (e ∙ gathered-long l (leb-false (length l) 15 f)))
+    go true false f g = absurd (some (e ∙ gathered-other l g))
+    go true true f g =
+        let few : length l ≤ 15 = leb-true (length l) 15 f in
+        let o : d .octets ≡ padded 15 15 (values l) = oe ∙ ap (λ (n : ℕ). unpack 15 (octetsOf 8 n)) e ∙ spread-back l few g in
+        let n : d .len ≡ length (values l) = le ∙ sym (values-length l) in
+        (λ k. record { octets = o k; len = n k }) ∙ sym (got-whole l few (passes _ g))

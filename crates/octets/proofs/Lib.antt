@@ -5,5 +5,6 @@ pub mod Begun
 pub mod EachOne
 pub mod Halves
 pub mod DigitStrings
+pub mod Eights
 pub mod Gathering
 pub mod Unpacking

@@ -7,9 +7,10 @@ use native.Mathlib.Numerals.{add-one}
 use native.Mathlib.Omega.{arith}
 use lib.ListN.{length, take, drop, getD, set, length-set, drop-of-length-le}
 use lib.Seq.{take-suc, take-length, drop-cons, drop-set-lt, getD-set-same, lt-length-set}
-use Rattle.meaning.specs.Octets.{numberOf, octetsOf}
-use Rattle.meaning.proofs.Numbers.{number-snoc}
-use Rattle.octets.specs.Parts.{Numbered}
+use Rattle.meaning.specs.Octets.{Octets, numberOf, octetsOf}
+use Rattle.meaning.proofs.Numbers.{number-snoc, octets-back}
+use Rattle.octets.specs.Parts.{partOf, Numbered}
+use Rattle.octets.proofs.Parts.{part-within, part-octets}
 
 -- ---- Reading
 
@@ -44,6 +45,10 @@ module _ (s : List ℕ) (i n : ℕ) (u : Summed s i n) where
   summed-all h =
       let e : i ≡ length s = omega (arith, u .within) in
       record { is = u .is ∙ rw (e, take-length s); fits = rw e at (u .fits) }
+
+-- the octets of a part's number are the part
+pub part-back : (l : List ℕ) (at w r : ℕ) → Octets l → at + w ≤ length l → r ≡ numberOf (partOf l at w) → octetsOf w r ≡ partOf l at w
+part-back l at w r o h e = ap (octetsOf w) e ∙ rw (part-within l at w h) at (octets-back (partOf l at w) (part-octets l at w o))
 
 -- ---- Laying out
 

@@ -4,6 +4,8 @@ use mathlib.Core.List.{List, [], _∷_}
 use Prim.Native.Nat.{ℕ, zero, suc, _+_, _-_, _^_, _<_, _≤_, min}
 use native.Mathlib.Nat.{pow-le-pow-right, add-zero}
 use native.Mathlib.Omega.{arith}
+use mir.Syntax.{w8}
+use mir.Val.{Fits}
 use lib.ListN.{length, take, drop, getD, length-take, length-drop, drop-of-length-le}
 use lib.Seq.{take-all, take-nil, drop-cons, getD-take, getD-drop}
 use Rattle.meaning.specs.Octets.{Octets}
@@ -61,6 +63,11 @@ all-placed l n e = part-placed l 0 n (omega arith) ∙ part-rest l 0 n (omega ar
 
 pub part-four : (l : List ℕ) (at a b c d : ℕ) → at + 4 ≤ length l → a ≡ getD l at 0 → b ≡ getD l (at + 1) 0 → c ≡ getD l (at + 2) 0 → d ≡ getD l (at + 3) 0 → a ∷ b ∷ c ∷ d ∷ [] ≡ partOf l at 4
 part-four l at a b c d h p q r t = rw (p, q, r, t) (rw (add-zero at) at (part-placed l at 4 h))
+
+-- a slice holds octets, by what is known of its elements
+pub slice-octets : (l : List ℕ) → ((i : ℕ) → Fits w8 (getD l i 0)) → Octets l
+slice-octets [] known = tt
+slice-octets (x ∷ l) known = (omega (arith, known 0), slice-octets l (λ i. known (suc i)))
 
 -- a part of octets holds octets
 pub part-octets : (l : List ℕ) (at n : ℕ) → Octets l → Octets (partOf l at n)

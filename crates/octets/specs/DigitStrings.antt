@@ -3,9 +3,9 @@
 use Prim.Native.Nat.{ℕ, zero, suc, _+_, _%_, min}
 use mathlib.Core.Bool.{Bool, cond, _&&_}
 use mathlib.Core.List.{List, [], _∷_, map}
-use lib.Dec.{eqb}
+use lib.Dec.{eqb, leb}
 use lib.ListN.{length, take, replicate}
-use Rattle.meaning.specs.Octets.{between, all, same, isDigit, digitValue, values, text, pack, unpack, packedLength}
+use Rattle.meaning.specs.Octets.{between, all, same, numberOf, isDigit, digitValue, values, text, pack, unpack, packedLength}
 use Rattle.meaning.specs.Answers.{over}
 use Rattle.octets.specs.declared.Digits.{Digits}
 
@@ -24,6 +24,11 @@ digitsOf l = record { octets = padded 15 15 l; len = length l }
 -- the digits of a text of 1 to 15 decimal digits; none of any other
 unfoldable pub gotOf : List ℕ → Digits
 gotOf l = cond (between 1 15 (length l) && all isDigit l) (digitsOf (values l)) (digitsOf [])
+
+-- the digits of a text of at most fifteen decimal digits, two to an octet with 15s behind them, as the number that the eight octets
+-- stand for; 0 of any other text
+unfoldable pub gatheredOf : List ℕ → ℕ
+gatheredOf l = cond (leb (length l) 15 && all isDigit l) (numberOf (pack (padded 15 15 (values l)))) 0
 
 -- the first n digits that octets hold, each taken modulo 16; zeros where they hold fewer
 unfoldable pub heldOf : (n : ℕ) → List ℕ → List ℕ

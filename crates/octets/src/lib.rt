@@ -8,7 +8,7 @@ ghost use lib.ListN.{length, getD};
 ghost use Rattle.meaning.specs.Octets.{all, numberOf, octetsOf, pack, unpack, packedLength, isDigit, isHex, digitValue, digitText, text};
 ghost use Rattle.meaning.specs.Answers.{over};
 ghost use Rattle.octets.specs.Parts.{partOf, Numbered, Written, laidAt, Laid};
-ghost use Rattle.octets.specs.DigitStrings.{halves, digitsOf, gotOf, eightOf};
+ghost use Rattle.octets.specs.DigitStrings.{halves, digitsOf, gatheredOf, gotOf, heldOf, eightOf};
 
 // "at most fifteen digits together with their count": the digits' values, with 15s behind them.
 pub struct Digits {
@@ -393,21 +393,86 @@ fn spread(e: [u8; 8], len: usize) -> Digits
     }
 }
 
-// The digits of a text of 1 to 15 decimal digits; none of any other. They are gathered two at a time from the end, as one number
-// that keeps them at its high end, so that none of them goes through memory.
-pub fn digits_of(text: &[u8]) -> Digits
-    ensures { λ r. ⌜ r ≡ gotOf (now (text .entry)) ⌝ }
+// The eight octets at a place, as a number: read at once.
+fn eight_at(s: &[u8], at: usize) -> u64
+    requires { ⌜ at + 8 ≤ length (now s) ⌝ }
+    ensures { λ r. ⌜ octetsOf 8 r ≡ partOf (now (s .entry)) at 8 ⌝ }
 {
-    if 15 < text.len() {
-        return none();
+    let eight = [
+        s[at],
+        s[at + 1],
+        s[at + 2],
+        s[at + 3],
+        s[at + 4],
+        s[at + 5],
+        s[at + 6],
+        s[at + 7],
+    ];
+    number(&eight)
+}
+
+// Whether the eight octets of a number are decimal digits: their high halves are 3, and their low halves with 6 more stay halves.
+fn eight_digits(a: u64) -> bool
+    ensures { λ r. ⌜ r ≡ all isDigit (octetsOf 8 a) ⌝ }
+{
+    ((a & 0xF0F0F0F0F0F0F0F0) == 0x3030303030303030)
+        & ((((a & 0x0F0F0F0F0F0F0F0F) + 0x0606060606060606) & 0xF0F0F0F0F0F0F0F0) == 0)
+}
+
+// The low halves of the eight octets of a number, two to an octet: a number of four octets.
+fn low_halves(a: u64) -> u64
+    ensures { λ r. ⌜ r ≡ numberOf (pack (heldOf 8 (octetsOf 8 a))) ⌝ }
+{
+    let x = a & 0x0F0F0F0F0F0F0F0F;
+    let y = (x + (x >> 4)) & 0x00FF00FF00FF00FF;
+    let z = (y + (y >> 8)) & 0x0000FFFF0000FFFF;
+    (z + (z >> 16)) & 0x00000000FFFFFFFF
+}
+
+// 8 to 15 digits: the first eight and the last eight, which may be some of the same.
+fn long_digits(text: &[u8]) -> u64
+    requires { ⌜ (8 ≤ length (now text)) × (length (now text) ≤ 15) ⌝ }
+    ensures { λ r. ⌜ r ≡ gatheredOf (now (text .entry)) ⌝ }
+{
+    let n = text.len();
+    let a = eight_at(text, 0);
+    let b = eight_at(text, n - 8);
+    if !(eight_digits(a) & eight_digits(b)) {
+        return 0;
     }
+    let s = (4 * (16 - n)) as u64;
+    let low = (low_halves(b) << s) % 4294967296;
+    (low_halves(a) << 32) + (low + ((1u64 << s) - 1))
+}
+
+// 4 to 7 digits: the first four and the last four, which may be some of the same.
+fn short_digits(text: &[u8]) -> u64
+    requires { ⌜ (4 ≤ length (now text)) × (length (now text) ≤ 7) ⌝ }
+    ensures { λ r. ⌜ r ≡ gatheredOf (now (text .entry)) ⌝ }
+{
+    let n = text.len();
+    let x = (u32_at(text, 0) as u64) * 4294967296 + (u32_at(text, n - 4) as u64);
+    if !eight_digits(x) {
+        return 0;
+    }
+    let h = low_halves(x);
+    let s = (4 * (8 - n)) as u64;
+    let low = ((h << s) % 65536) + ((1u64 << s) - 1);
+    ((h / 65536) << 48) + ((low << 32) + 4294967295)
+}
+
+// At most three digits, two at a time from the end.
+fn few_digits(text: &[u8]) -> u64
+    requires { ⌜ length (now text) ≤ 3 ⌝ }
+    ensures { λ r. ⌜ r ≡ gatheredOf (now (text .entry)) ⌝ }
+{
     let mut p: u64 = 18446744073709551615;
     let mut i = text.len();
     if i % 2 == 1 {
         i -= 1;
         let x = text[i];
         if !is_digit(x) {
-            return none();
+            return 0;
         }
         p = put_before(pair(x % 16, 15), p);
     }
@@ -415,10 +480,39 @@ pub fn digits_of(text: &[u8]) -> Digits
         let x = text[i - 2];
         let y = text[i - 1];
         if !(is_digit(x) & is_digit(y)) {
-            return none();
+            return 0;
         }
         p = put_before(pair(x % 16, y % 16), p);
         i -= 2;
+    }
+    p
+}
+
+// The digits of a text of at most 15, two to an octet from the high end of a number on, with 15s behind them; 0 where one is no
+// digit or there are more. So none of them goes through memory.
+fn gathered(text: &[u8]) -> u64
+    ensures { λ r. ⌜ r ≡ gatheredOf (now (text .entry)) ⌝ }
+{
+    let n = text.len();
+    if 15 < n {
+        return 0;
+    }
+    if 8 <= n {
+        return long_digits(text);
+    }
+    if 4 <= n {
+        return short_digits(text);
+    }
+    few_digits(text)
+}
+
+// The digits of a text of 1 to 15 decimal digits; none of any other.
+pub fn digits_of(text: &[u8]) -> Digits
+    ensures { λ r. ⌜ r ≡ gotOf (now (text .entry)) ⌝ }
+{
+    let p = gathered(text);
+    if p == 0 {
+        return none();
     }
     spread(u64_octets(p), text.len())
 }

@@ -12,7 +12,7 @@ use Rattle.meaning.specs.Sheet.{attributeOctets, carries, storedLength, holds, 
 use Rattle.meaning.proofs.Octets.{octet-at, octets-take, octets-drop}
 use Rattle.meaning.proofs.Tests.{parts}
 use Rattle.meaning.proofs.Framing.{plain-lines, gpp-lines}
-use Rattle.meaning.proofs.Items.{entered-holds}
+use Rattle.meaning.proofs.Items.{entered-holds, number-low}
 use Rattle.item.specs.declared.Headed.{Headed}
 use Rattle.item.specs.declared.Headed.the-variants.{Item}
 use Rattle.item.specs.Stands.{standsAs}
@@ -76,12 +76,8 @@ module _ (l : List ℕ) (p : ℕ) (o : Octets l) (r : Headed) (says : r ≡ head
   pub behind-head : p + 4 ≤ behind
   behind-head = omega (arith, head .behind-is)
 
-  pub number-low : n < 512
-  number-low = rw (head .number-is) (go (eqb (getD l p 0) 26 && not (eqb (getD l (p + 2) 0) 0)))
-    where
-      go : (b : Bool) → cond b (256 + getD l (p + 1) 0) (getD l p 0) < 512
-      go true = omega (arith, octet-at l (p + 1) o)
-      go false = omega (arith, octet-at l p o)
+  pub carried-low : n < 512
+  carried-low = omega (arith, head .number-is, number-low (getD l p 0) (getD l (p + 1) 0) (getD l (p + 2) 0) (octet-at l p o) (octet-at l (p + 1) o))
 
   pub stored-size : length stored-here ≡ storedLength f c
   stored-size = size-stored l p o r says n f c behind head

@@ -6,7 +6,8 @@ use mathlib.Core.Bool.{false, _&&_}
 use mathlib.Core.Logic.{⊎-elim}
 use mathlib.Core.Path.{_≡_, refl, _∙_}
 use native.Mathlib.Omega.{arith}
-use Rattle.area.proofs.Steps.{Stands, slice-octets, step-attribute, step-refused, step-ended}
+use Rattle.octets.proofs.Parts.{slice-octets}
+use Rattle.area.proofs.Steps.{Stands, step-attribute, step-refused, step-ended}
 use Rattle.area.proofs.Carrying.{step-carried}
 use Rattle.meaning.specs.Octets.{Octets, isIn}
 use Rattle.meaning.specs.Breaches.{onceOnly}

@@ -1,6 +1,6 @@
 -- Four octets, twelve, or another number. Assumes nothing.
 use borrow.Author.Needs.{needs}
-use Rattle.area.proofs.Steps.{slice-octets}
+use Rattle.octets.proofs.Parts.{slice-octets}
 use Rattle.item.proofs.Held.{qos-short, qos-long, qos-other}
 use Rattle.item.proofs.holds_qos.Statement.{statement}
 use Rattle.item.proofs.holds_qos.Tie as tie

@@ -1,139 +1,36 @@
--- From the place on the text is digits, gathered two at a time; one that is none decides. Assumes nothing.
+-- What is gathered is spread; where nothing is, there are no digits. Assumes nothing.
 use borrow.Author.Needs.{needs}
-use mathlib.Core.Path.{sym, ap, ap₂, _∙_}
-use mathlib.Core.Logic.{⊎-elim}
-use mathlib.Core.Bool.{_&&_}
-use Prim.Native.Nat.{_-_}
-use borrow.Author.Tests.{not-true, not-false}
-use native.Mathlib.Omega.{arith}
-use lib.ListN.{length}
-use Rattle.meaning.specs.Octets.{unpack, isDigit}
-use Rattle.octets.proofs.EachOne.{one-fails}
-use Rattle.octets.proofs.DigitStrings.{got-long, got-other}
-use Rattle.octets.proofs.Gathering.{Gathered, gathered-none, gathered-odd, gathered-more, gathered-not, gathered-all}
+use mathlib.Core.Path.{sym, ap, _∙_}
+use Rattle.meaning.specs.Octets.{unpack}
+use Rattle.octets.proofs.Gathering.{got-nothing, got-gathered}
 use Rattle.octets.proofs.digits_of.Statement.{statement}
 use Rattle.octets.proofs.digits_of.Tie as tie
 
-abbrev Inv-loop : tie.InvT-loop
-Inv-loop text p₀ i₀ p i = Gathered text i p
+gathered-requires : tie.Need-gathered-requires
+gathered-requires c κs = search needs
 
-abbrev μ-loop : tie.MeasureT-loop
-μ-loop text p₀ i₀ p i = i
-
-none-requires : tie.Need-none-requires Inv-loop μ-loop
+none-requires : tie.Need-none-requires
 none-requires c κs = search needs
 
-returns : tie.Need-returns Inv-loop μ-loop
-returns c = c .none .ensures ∙ sym (got-long _ (omega arith))
+returns : tie.Need-returns
+returns c = c .none .ensures ∙ sym (got-nothing _ _ (c .before .before .gathered .ensures) (c .before .if1 .taken))
 
-sub-i : tie.Need-sub-i Inv-loop μ-loop
-sub-i c = search needs
-
-shared-slice-read-x : tie.Need-shared-slice-read-x Inv-loop μ-loop
-shared-slice-read-x c = search needs
-
-is-digit-requires : tie.Need-is-digit-requires Inv-loop μ-loop
-is-digit-requires c κs = search needs
-
-none-requires-2 : tie.Need-none-requires-2 Inv-loop μ-loop
-none-requires-2 c κs = search needs
-
-returns-2 : tie.Need-returns-2 Inv-loop μ-loop
-returns-2 c = let text = c .before .before .before .before .before .before .before .args .text .now in
-    c .none2 .ensures ∙ sym (got-other text (one-fails isDigit text (length text - 1) (omega arith) (sym (c .before .before .is-digit .ensures) ∙ not-true _ (c .before .if3 .taken))))
-
-pair-requires : tie.Need-pair-requires Inv-loop μ-loop
-pair-requires c κs = search needs
-
-put-before-requires : tie.Need-put-before-requires Inv-loop μ-loop
-put-before-requires c κs = search needs
-
-loop-holds : tie.Need-loop-holds Inv-loop μ-loop
-loop-holds c =
-    let text = c .before .before .before .args .text .now in
-    ⊎-elim (λ w. rw (w .6, w .7) (gathered-odd text (omega (arith, w .0 .taken)) (sym (w .2 .ensures) ∙ not-false _ (w .3 .left)) _ _ (w .4 .ensures) (w .5 .ensures)))
-    (λ w. rw (w .1, w .2) (gathered-none text (omega (arith, w .0 .left))))
-    (c .if2 .came)
-
-sub-x : tie.Need-sub-x Inv-loop μ-loop
-sub-x c = omega (arith, c .before .before .loop .inv .even)
-
-shared-slice-read-x-2 : tie.Need-shared-slice-read-x-2 Inv-loop μ-loop
-shared-slice-read-x-2 c = search needs
-
-sub-y : tie.Need-sub-y Inv-loop μ-loop
-sub-y c = omega (arith, c .before .before .before .loop .inv .even)
-
-shared-slice-read-y : tie.Need-shared-slice-read-y Inv-loop μ-loop
-shared-slice-read-y c = search needs
-
-is-digit-requires-2 : tie.Need-is-digit-requires-2 Inv-loop μ-loop
-is-digit-requires-2 c κs = search needs
-
-is-digit-requires-3 : tie.Need-is-digit-requires-3 Inv-loop μ-loop
-is-digit-requires-3 c κs = search needs
-
-none-requires-3 : tie.Need-none-requires-3 Inv-loop μ-loop
-none-requires-3 c κs = search needs
-
-returns-3 : tie.Need-returns-3 Inv-loop μ-loop
-returns-3 c = let u = c .before .before .before .before .before .before .before .before .loop in
-    c .none3 .ensures ∙ sym (gathered-not _ _ _ (u .inv) (omega arith) (ap₂ _&&_ (sym (c .before .before .before .is-digit2 .ensures)) (sym (c .before .before .is-digit3 .ensures)) ∙ not-true _ (c .before .if4 .taken)))
-
-pair-requires-2 : tie.Need-pair-requires-2 Inv-loop μ-loop
-pair-requires-2 c κs = search needs
-
-put-before-requires-2 : tie.Need-put-before-requires-2 Inv-loop μ-loop
-put-before-requires-2 c κs = search needs
-
-sub-i-2 : tie.Need-sub-i-2 Inv-loop μ-loop
-sub-i-2 c = omega (arith, c .before .before .before .before .before .before .before .before .before .loop .inv .even)
-
-loop-less : tie.Need-loop-less Inv-loop μ-loop
-loop-less c = search needs
-
-loop-again : tie.Need-loop-again Inv-loop μ-loop
-loop-again c = let u = c .before .before .before .before .before .before .before .before .before .loop in
-    gathered-more _ _ _ (u .inv) (omega arith) (omega arith) (ap₂ _&&_ (sym (c .before .before .before .before .is-digit2 .ensures)) (sym (c .before .before .before .is-digit3 .ensures)) ∙ not-false _ (c .before .before .if4 .left)) _ _ (c .before .pair2 .ensures) (c .put-before2 .ensures)
-
-u64-octets-requires : tie.Need-u64-octets-requires Inv-loop μ-loop
+u64-octets-requires : tie.Need-u64-octets-requires
 u64-octets-requires c κs = search needs
 
-spread-requires : tie.Need-spread-requires Inv-loop μ-loop
+spread-requires : tie.Need-spread-requires
 spread-requires c κs = search needs
 
-returns-4 : tie.Need-returns-4 Inv-loop μ-loop
-returns-4 c = gathered-all _ _ _ (c .before .before .before .loop .inv) (omega arith) (omega arith) (c .spread .ensures .0 ∙ ap (unpack 15) (c .before .u64-octets .ensures)) (c .spread .ensures .1)
+returns-2 : tie.Need-returns-2
+returns-2 c = got-gathered _ _ (c .before .before .before .gathered .ensures) (c .before .before .if1 .left) (c .spread .ensures .0 ∙ ap (unpack 15) (c .before .u64-octets .ensures)) (c .spread .ensures .1)
 
 pub digits-of-spec : {M : Type 1} → statement M
 digits-of-spec =
     tie.close
     (tie.spec
-    Inv-loop
-    μ-loop
+    gathered-requires
     none-requires
     returns
-    sub-i
-    shared-slice-read-x
-    is-digit-requires
-    none-requires-2
-    returns-2
-    pair-requires
-    put-before-requires
-    loop-holds
-    sub-x
-    shared-slice-read-x-2
-    sub-y
-    shared-slice-read-y
-    is-digit-requires-2
-    is-digit-requires-3
-    none-requires-3
-    returns-3
-    pair-requires-2
-    put-before-requires-2
-    sub-i-2
-    loop-less
-    loop-again
     u64-octets-requires
     spread-requires
-    returns-4)
+    returns-2)

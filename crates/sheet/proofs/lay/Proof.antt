@@ -3,7 +3,7 @@ use borrow.Author.Needs.{needs}
 use lib.Seq.{length-take-le}
 use mathlib.Core.Path.{sym}
 use native.Mathlib.Omega.{arith}
-use Rattle.area.proofs.Steps.{slice-octets}
+use Rattle.octets.proofs.Parts.{slice-octets}
 use Rattle.sheet.proofs.Whole.{bounded, too-long, sheet-copied, framing-refused, items-ready, items-few}
 use Rattle.sheet.proofs.lay.Statement.{statement}
 use Rattle.sheet.proofs.lay.Tie as tie

@@ -4,7 +4,8 @@ use Prim.Native.Nat.{_-_}
 use borrow.Author.Needs.{needs}
 use lib.ListN.{length}
 use native.Mathlib.Omega.{arith}
-use Rattle.area.proofs.Steps.{Stands, slice-octets, step-attribute, step-refused, step-ended}
+use Rattle.octets.proofs.Parts.{slice-octets}
+use Rattle.area.proofs.Steps.{Stands, step-attribute, step-refused, step-ended}
 use Rattle.meaning.specs.Octets.{Octets}
 use Rattle.sheet.proofs.Passes.{Passing, passing-none, passing-sum, passing-more, passing-done, passing-broken, number-low, names-fit, item-count, item-within, item-fits}
 use Rattle.sheet.proofs.put_items.Statement.{statement}

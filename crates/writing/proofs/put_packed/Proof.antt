@@ -1,7 +1,7 @@
 -- A number that takes no such digits, octets that are none, or the digits. Assumes nothing.
 use borrow.Author.Needs.{needs}
 use borrow.Author.Tests.{not-true, not-false}
-use Rattle.area.proofs.Steps.{slice-octets}
+use Rattle.octets.proofs.Parts.{slice-octets}
 use Rattle.writing.proofs.Valuing.{digits-not-taken, digits-not-packed, digits-valued}
 use Rattle.writing.proofs.put_packed.Statement.{statement}
 use Rattle.writing.proofs.put_packed.Tie as tie

@@ -3,7 +3,7 @@ use borrow.Author.Needs.{needs}
 use borrow.Author.Tests.{not-true, not-false}
 use mathlib.Core.Path.{refl, sym, _∙_}
 use native.Mathlib.Omega.{arith}
-use Rattle.area.proofs.Steps.{slice-octets}
+use Rattle.octets.proofs.Parts.{slice-octets}
 use Rattle.writing.proofs.Values.{Profile, profile}
 use Rattle.writing.proofs.Valuing.{profile-not-261, profile-none, profile-valued}
 use Rattle.writing.proofs.put_qos.Statement.{statement}

@@ -3,7 +3,7 @@ use borrow.Author.Needs.{needs}
 use borrow.Author.Tests.{not-true, not-false}
 use mathlib.Core.Path.{sym, _∙_}
 use native.Mathlib.Omega.{arith}
-use Rattle.area.proofs.Steps.{slice-octets}
+use Rattle.octets.proofs.Parts.{slice-octets}
 use Rattle.item.proofs.Entering.{stored-low}
 use Rattle.writing.proofs.Valuing.{number-valued, address-valued, text-none, text-valued, valued-count, octet-none, octet-one, octet-valued, raw-none, raw-valued}
 use Rattle.writing.proofs.put_value.Statement.{statement}

@@ -4,13 +4,13 @@ use mathlib.Core.Path.{_≡_, refl, sym, ap, _∙_}
 use Prim.Native.Nat.{ℕ, _+_, _-_, _<_, _≤_, min}
 use native.Mathlib.Omega.{arith}
 use lib.ListN.{length}
-use Rattle.area.proofs.Steps.{slice-octets}
+use Rattle.octets.proofs.Parts.{slice-octets}
 use Rattle.meaning.specs.Octets.{Octets}
 use Rattle.meaning.specs.Framing.{headLength}
 use Rattle.item.specs.Answers.{headedAt}
 use Rattle.item.specs.declared.Headed.the-variants.{Item}
 use Rattle.writing.specs.Attributes.{Valued}
-use Rattle.writing.proofs.Entries.{stored-here, stored-size, behind-head, behind-within, number-low}
+use Rattle.writing.proofs.Entries.{stored-here, stored-size, behind-head, behind-within, carried-low}
 use Rattle.writing.proofs.Putting.{head-two, head-eight}
 use Rattle.writing.proofs.Transcribing.{Transcribing, transcribing-none, transcribing-refused, transcribing-23, put-short, transcribing-more, transcribing-remains, transcribing-done}
 use Rattle.writing.proofs.transcribe.Statement.{statement}
@@ -98,7 +98,7 @@ head-len-requires c κs = search needs
 
 put-front-requires : tie.Need-put-front-requires Inv-loop μ-loop
 put-front-requires c κs = let k = c .before .before .before in
-    (number-low _ _ (octets k) _ (says k) _ _ _ _ (item k), omega (arith, fits (c .before .before), head-eight (k .before .number .given .0 .0)))
+    (carried-low _ _ (octets k) _ (says k) _ _ _ _ (item k), omega (arith, fits (c .before .before), head-eight (k .before .number .given .0 .0)))
 
 add-put-value : tie.Need-add-put-value Inv-loop μ-loop
 add-put-value c = let g = c .before .before .before in
