@@ -2,6 +2,5 @@ pub mod Texts
 pub mod Held
 pub mod Standing
 pub mod Judging
-pub mod Sets
 pub mod Shaping
 pub mod Entering

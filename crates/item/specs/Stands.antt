@@ -1,12 +1,12 @@
 -- 23, "an item that no readable attribute gives", of an item whose head and stored octets are there: by its form, and for form 2 to 7
 -- by the shape of its number. Assumes nothing.
-use Prim.Native.Nat.{ℕ, _-_, _/_, _%_, _^_}
+use Prim.Native.Nat.{ℕ}
 use mathlib.Core.Bool.{Bool, false, cond, not, _&&_}
 use mathlib.Core.List.{List, _∷_}
 use lib.Dec.{eqb, leb, ltb}
 use lib.ListN.{length, take}
 use Rattle.meaning.specs.Octets.{between, same, numberOf}
-use Rattle.meaning.specs.Framing.{isPlain, vendor3gpp}
+use Rattle.meaning.specs.Framing.{vendor3gpp}
 use Rattle.meaning.specs.Shapes.{Shape, number, address, digits, hexadecimal, qos, hexDigit, anyOctet, decimalDigit, atLeast, exactly, blocks, free, shapeOf, meets}
 use Rattle.meaning.specs.Sheet.{formOf, storedOf, valueOf, form, item, carries, numberIn, valueIn}
 
@@ -19,14 +19,6 @@ standsFor t s f c st =
 -- "another vendor's type 26, id included"
 unfoldable pub otherVendor : List ℕ → Bool
 otherVendor v = leb 5 (length v) && not (eqb (numberOf (take 4 v)) vendor3gpp)
-
--- a number below 64 is in a set that is told by its bits
-abbrev pub inSet : (set number : ℕ) → Bool
-inSet set n = ltb n 64 && eqb (set / 2 ^ (n % 64) % 2) 1
-
--- a carried number is in a set of plain numbers or in one of 3GPP numbers
-unfoldable pub inSets : (plain gpp number : ℕ) → Bool
-inSets p g n = inSet (cond (isPlain n) p g) (cond (isPlain n) n (n - 256))
 
 -- a value that stands as it is, in form 0 or 1
 unfoldable pub raw : (number form : ℕ) → List ℕ → Bool

@@ -8,7 +8,7 @@ ghost use lib.ListN.{length, getD};
 ghost use Rattle.meaning.specs.Shapes.{qos, shapeOf};
 ghost use Rattle.meaning.specs.Sheet.{numberIn};
 ghost use Rattle.meaning.specs.Sheet as meant;
-ghost use Rattle.item.specs.Stands.{otherVendor, inSets, takesDigits, held, shaped, raw};
+ghost use Rattle.item.specs.Stands.{otherVendor, takesDigits, held, shaped, raw};
 ghost use Rattle.item.specs.Answers.{headedAt, headRefused};
 
 // What the head of an item says: the number that it carries, 0 to 255 for a plain one and 256 more than the sub-attribute's for a 3GPP
@@ -72,44 +72,35 @@ pub fn carries(number: u16, value: &[u8]) -> bool
     other_vendor(value)
 }
 
-// Whether a number is in a set of plain numbers or in one of 3GPP numbers, each below 64: the bits of two numbers.
-fn is_in(plain: u64, gpp: u64, number: u16) -> bool
-    ensures { λ r. ⌜ r ≡ inSets plain gpp number ⌝ }
-{
-    let set = if number < 256 { plain } else { gpp };
-    let n = if number < 256 { number } else { number - 256 };
-    (n < 64) & ((set >> (n % 64) as u64) % 2 == 1)
-}
-
 // Whether a number has a form of its own, 2 to 7: plain 4, 6 to 9, 31, 40 to 49 and 61, 3GPP 1 to 12 and 18.
 fn has_form(number: u16) -> bool
     ensures { λ r. ⌜ r ≡ leb 2 (meant.formOf (shapeOf number)) ⌝ }
 {
-    is_in(0x2003_ff00_8000_03d0, 0x4_1ffe, number)
+    shape::is_in(0x2003_ff00_8000_03d0, 0x4_1ffe, number)
 }
 
 // Whether a number's own form is 2, a number: plain 6, 7, 40 to 43, 45 to 49 and 61, 3GPP 2 and 3.
 pub fn is_number(number: u16) -> bool
     ensures { λ r. ⌜ r ≡ eqb (meant.formOf (shapeOf number)) 2 ⌝ }
 {
-    is_in(0x2003_ef00_0000_00c0, 0xc, number)
+    shape::is_in(0x2003_ef00_0000_00c0, 0xc, number)
 }
 
 // Whether a number's own form is 3, an address: plain 4, 8 and 9, 3GPP 4, 6 and 7.
 pub fn is_address(number: u16) -> bool
     ensures { λ r. ⌜ r ≡ eqb (meant.formOf (shapeOf number)) 3 ⌝ }
 {
-    is_in(0x310, 0xd0, number)
+    shape::is_in(0x310, 0xd0, number)
 }
 
 // Whether a number's own form is 4, digits, and it takes so many: 3GPP 8, 9 and 18 take 5 or 6, plain 31 and 3GPP 1 take 1 to 15.
 pub fn takes_digits(number: u16, count: u8) -> bool
     ensures { λ r. ⌜ r ≡ takesDigits (shapeOf number) count ⌝ }
 {
-    if is_in(0, 0x4_0300, number) {
+    if shape::is_in(0, 0x4_0300, number) {
         return (5 <= count) & (count <= 6);
     }
-    is_in(0x8000_0000, 2, number) & ((1 <= count) & (count <= 15))
+    shape::is_in(0x8000_0000, 2, number) & ((1 <= count) & (count <= 15))
 }
 
 // Whether a value stands as it is, in form 0 or 1: it takes that form, and an attribute carries it. Only a number with a form of its

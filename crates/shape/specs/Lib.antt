@@ -1,2 +1,3 @@
 pub mod Codes
+pub mod Sets
 pub mod Items

@@ -11,6 +11,7 @@ ghost use Rattle.meaning.specs.Shapes as meant;
 ghost use Rattle.meaning.specs.Framing.{isPlain};
 ghost use Rattle.meaning.specs.Sheet.{formOf, form, storedLength};
 ghost use Rattle.shape.specs.Codes.{codeOf, shapeBy};
+ghost use Rattle.shape.specs.Sets.{inSets};
 ghost use Rattle.shape.specs.Items.{undigited, rawItem, itemFor};
 
 // "An item's value is either a number, an address, digits or plain octets": plain octets as a part of the area; the digits stand
@@ -30,6 +31,15 @@ pub struct Item {
     pub count: usize,
     pub value: Value,
     pub digits: octets::Digits,
+}
+
+// Whether a number is in a set of plain numbers or in one of 3GPP numbers, each below 64: the bits of two numbers.
+pub fn is_in(plain: u64, gpp: u64, number: u16) -> bool
+    ensures { λ r. ⌜ r ≡ inSets plain gpp number ⌝ }
+{
+    let set = if number < 256 { plain } else { gpp };
+    let n = if number < 256 { number } else { number - 256 };
+    (n < 64) & ((set >> (n % 64) as u64) % 2 == 1)
 }
 
 // The code of a plain number's shape.

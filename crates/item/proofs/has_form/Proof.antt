@@ -4,8 +4,8 @@ use mathlib.Core.Path.{_∙_}
 use lib.Dec.{leb}
 use Rattle.meaning.specs.Shapes.{shapeOf, plainShape, gppShape}
 use Rattle.meaning.specs.Sheet.{formOf}
-use Rattle.item.specs.Stands.{inSets}
-use Rattle.item.proofs.Sets.{sets-tell}
+use Rattle.shape.specs.Sets.{inSets}
+use Rattle.shape.proofs.Sets.{sets-tell}
 use Rattle.item.proofs.has_form.Statement.{statement}
 use Rattle.item.proofs.has_form.Tie as tie
 

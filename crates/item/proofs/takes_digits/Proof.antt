@@ -7,8 +7,8 @@ use lib.Dec.{eqb}
 use Rattle.meaning.specs.Octets.{between}
 use Rattle.meaning.specs.Shapes.{shapeOf, plainShape, gppShape}
 use Rattle.shape.specs.Codes.{codeOf}
-use Rattle.item.specs.Stands.{inSets}
-use Rattle.item.proofs.Sets.{sets-tell}
+use Rattle.shape.specs.Sets.{inSets}
+use Rattle.shape.proofs.Sets.{sets-tell}
 use Rattle.item.proofs.Shaping.{takes-few, takes-many}
 use Rattle.item.proofs.takes_digits.Statement.{statement}
 use Rattle.item.proofs.takes_digits.Tie as tie

@@ -6,9 +6,9 @@ use mathlib.Core.Logic.{⊎-elim}
 use mathlib.Core.Bool.{cond}
 use Prim.Native.Nat.{_-_}
 use Rattle.meaning.specs.Framing.{isPlain}
-use Rattle.item.specs.Stands.{inSets}
-use Rattle.item.proofs.is_in.Statement.{statement}
-use Rattle.item.proofs.is_in.Tie as tie
+use Rattle.shape.specs.Sets.{inSets}
+use Rattle.shape.proofs.is_in.Statement.{statement}
+use Rattle.shape.proofs.is_in.Tie as tie
 
 cast-result : tie.Need-cast-result
 cast-result c = search needs
