@@ -1,10 +1,10 @@
 -- An item that is found at a place of a sheet, and the attribute that it gives. Assumes nothing.
 use mathlib.Core.Path.{_≡_, refl, ap, _∙_}
-use mathlib.Core.Bool.{Bool, true, false, cond, not, _&&_}
+use mathlib.Core.Bool.{Bool, true, false, cond}
 use mathlib.Core.List.{List, [], _∷_, _++_}
 use Prim.Native.Nat.{ℕ, _+_, _-_, _<_, _≤_}
 use native.Mathlib.Omega.{arith}
-use lib.Dec.{T, eqb, leb, leb→le}
+use lib.Dec.{T, leb, leb→le}
 use lib.ListN.{length, take, drop, getD, length-append}
 use Rattle.meaning.specs.Octets.{Octets}
 use Rattle.meaning.specs.Framing.{isPlain, headLength}
