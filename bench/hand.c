@@ -38,7 +38,6 @@ enum { ANY, RANGE, STATUS };
 /* Kinds in which a number is not permitted, a bit each; and one that depends on flag 4. */
 enum { ACCOUNTING = 0x7C, ON_OFF = 0x30, NOT_STOP = 0x76, NO_CLASS = 0x80, USAGE = 0x4C };
 
-
 struct number {
     uint8_t shape, allowed, low, high, once, barred;
 };
