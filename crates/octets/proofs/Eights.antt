@@ -11,7 +11,7 @@ use mir.Syntax.{w64}
 use mir.Val.{Fits}
 use lib.Arith.{digits-mod, digits-lt, mod-mul}
 use lib.Bits.{bitAnd, and-block, and-mask, and-high, and-zero-r, and-le-r}
-use lib.Dec.{T, eqb, leb, eqb→eq, eqb-refl}
+use lib.Dec.{eqb, leb, eqb→eq, eqb-refl}
 use lib.ListN.{length, take, drop, replicate, replicate-append-replicate, length-replicate, length-append, length-map, length-drop, take-append-drop}
 use lib.Pow.{pow-add, add-lt-pow, shl-exact, mod-mod-pow}
 use lib.Seq.{length-take-le, drop-drop}

@@ -1,7 +1,7 @@
 -- The octets passed hold the halves before them; the last eight, some of which are passed, end the pairs, and the rest is packed
 -- behind them. Assumes nothing.
 use borrow.Author.Needs.{needs}
-use Prim.Native.Nat.{_-_, _+_, _≤_}
+use Prim.Native.Nat.{_-_, _≤_}
 use native.Mathlib.Omega.{arith}
 use Rattle.meaning.specs.Octets.{pack}
 use Rattle.octets.specs.Parts.{Written}
