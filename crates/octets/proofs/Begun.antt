@@ -7,7 +7,8 @@ use native.Mathlib.Omega.{arith}
 use lib.ListN.{length, take, drop, length-append, take-append-drop}
 use lib.Seq.{length-take-le, take-add, take-take, take-append-le, take-append-add, take-at, drop-at, drop-drop}
 use Rattle.meaning.specs.Answers.{over}
-use Rattle.octets.specs.Parts.{laidAt, Begun}
+use Rattle.octets.specs.Parts.{partOf, laidAt, Begun}
+use Rattle.octets.proofs.Parts.{part-at-most}
 use Rattle.octets.proofs.Overs.{laid-fits, laid-length}
 
 -- Nothing stands anywhere.
@@ -44,6 +45,13 @@ begun-start at s t d out h b =
 
 pub begun-take : (at n : ℕ) (s d out : List ℕ) → at ≤ length d → Begun at s d out → Begun at (take n s) d out
 begun-take at n s d out h b = begun-start at (take n s) (drop n s) d out h (begun-as at s (take n s ++ drop n s) d out (take-append-drop n s) b)
+
+-- So do the first n of them where sixteen were laid, or as many as there are.
+pub begun-short : (at n : ℕ) (s d out : List ℕ) → n ≤ 16 → at + 16 ≤ length d → out ≡ laidAt at (partOf s 0 16) d → Begun at (take n s) d out
+unfolding partOf
+begun-short at n s d out h room e =
+    begun-as at (take n (partOf s 0 16)) (take n s) d out (sym (take-take n 16 s h))
+    (begun-take at n (partOf s 0 16) d out (omega arith) (begun-laid at (partOf s 0 16) d out (omega (arith, part-at-most s 0 16)) e))
 
 -- Laid one behind the other, two pieces stand as one.
 pub begun-on : (at behind : ℕ) (s t d first out : List ℕ) → at + length s ≡ behind → Begun at s d first → Begun behind t first out → Begun at (s ++ t) d out

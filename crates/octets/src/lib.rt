@@ -228,6 +228,14 @@ pub fn copy_at(buf: &mut [u8], at: usize, src: &[u8]) -> bool
     true
 }
 
+// Copies the first sixteen octets of `src`, or as many as it has, over `buf` from the place `at` on and says true, if they fit; else
+// changes nothing and says false.
+pub fn copy_sixteen(buf: &mut [u8], at: usize, src: &[u8]) -> bool
+    ensures { λ r. ⌜ Laid at (partOf (now (src .entry)) 0 16) (now (buf .entry)) r (now (buf .exit)) ⌝ }
+{
+    copy_at(buf, at, part(src, 0, 16))
+}
+
 // Whether `x` is a decimal digit.
 pub fn is_digit(x: u8) -> bool
     ensures { λ r. ⌜ r ≡ isDigit x ⌝ }

@@ -6,14 +6,14 @@ use Prim.Native.Nat.{ℕ, _+_, _-_, _*_, _%_, _≤_, _<_, min}
 use native.Mathlib.Omega.{arith}
 use lib.Dec.{eqb}
 use lib.ListN.{length, take, drop, getD, set, length-take, length-drop}
-use lib.Seq.{take-all}
+use lib.Seq.{take-all, length-take-le}
 use borrow.Author.Tests.{eq-eqb, ne-eqb, lt-ltb, le-ltb}
 use Rattle.meaning.specs.Octets.{octetsOf, pack, packedLength, digitValue}
 use Rattle.octets.specs.Parts.{partOf, laidAt, Begun}
 use Rattle.octets.specs.DigitStrings.{halves, eightOf, packedOf}
 use Rattle.octets.specs.declared.Digits.{Digits}
 use Rattle.octets.proofs.Overs.{each-laid, laid-as}
-use Rattle.octets.proofs.Begun.{begun-laid, begun-as, begun-take, begun-on, begun-before}
+use Rattle.octets.proofs.Begun.{begun-laid, begun-as, begun-take, begun-short, begun-on, begun-before}
 use Rattle.octets.proofs.Halves.{halves-packed}
 use Rattle.octets.proofs.DigitStrings.{eight-length, packed-length}
 use Rattle.area.specs.declared.Part.{Part}
@@ -66,7 +66,7 @@ part-plain f v d e = rw (ne-eqb f 5 d, ne-eqb f 6 e)
 rest-long : (v : List ℕ) → length (pack (halves (drop 3 v))) ≡ packedLength (length v - 3)
 rest-long v = halves-packed (drop 3 v) ∙ ap packedLength (length-drop 3 v)
 
-pub qos-room : (f at room : ℕ) (v : List ℕ) → (f ≡ 5 → ⊥) → f ≡ 6 → at + length (storedPart f v) ≤ room → at + (1 + packedLength (length v - 3)) ≤ room
+pub qos-room : (f at room : ℕ) (v : List ℕ) → (f ≡ 5 → ⊥) → f ≡ 6 → at + length (storedPart f v) + 16 ≤ room → at + (1 + packedLength (length v - 3)) ≤ room
 qos-room f at room v d e h = omega (arith, ap length (part-6 f v d e), rest-long v)
 
 -- ---- What the writers lay
@@ -92,6 +92,14 @@ digits-put d at n size eight buf out e few long room h =
       holds = begun-take at (packedLength (min (d .len) 15)) (eightOf d) buf out (omega arith) (begun-laid at (eightOf d) buf out (omega (arith, eight-length d)) (rw e at h));
     }
 
+-- a few octets, with what stands behind them
+pub short-put : (at n : ℕ) (s t d out : List ℕ) → t ≡ take n s → n ≤ length s → n ≤ 16 → at + length t + 16 ≤ length d → out ≡ laidAt at (partOf s 0 16) d → Put at t d n out
+short-put at n s t d out same within few room e =
+    record {
+      says = sym (ap length same ∙ length-take-le n s within);
+      holds = begun-as at (take n s) t d out same (begun-short at n s d out few (omega arith) e);
+    }
+
 -- the octets from the start of a part to its end are those of the part
 abbrev pub cutOf : List ℕ → Part → List ℕ
 cutOf area p = take (p .start + p .len - p .start) (drop (p .start) area)
@@ -101,6 +109,14 @@ unfolding partOf
 cut-part area p =
     let long : p .start + p .len - p .start ≡ p .len = omega arith in
     ap (λ (n : ℕ). take n (drop (p .start) area)) long
+
+-- what stands in an area from the start of a part on begins with the part
+abbrev pub restOf : List ℕ → Part → List ℕ
+restOf area p = take (length area - p .start) (drop (p .start) area)
+
+rest-part : (area : List ℕ) (p : Part) → take (p .len) (restOf area p) ≡ partOf area (p .start) (p .len)
+unfolding partOf
+rest-part area p = ap (take (p .len)) (take-all (length area - p .start) (drop (p .start) area) (omega (arith, length-drop (p .start) area)))
 
 module _ (area : List ℕ) (i : Item) where
   -- an item of each value
@@ -120,27 +136,26 @@ module _ (area : List ℕ) (i : Item) where
   unfolding storedIn storedValue
   part-stored p e = rw e
 
-  -- plain octets that lie in the area, as it is cut there
+  -- plain octets that lie in the area
   module _ (p : Part) (e : i .value ≡ is.Plain p) where
-    pub cut-stored : storedIn area i ≡ storedPart (i .form) (cutOf area p)
-    cut-stored = part-stored p e ∙ ap (storedPart (i .form)) (sym (cut-part area p))
+    pub rest-stored : storedIn area i ≡ storedPart (i .form) (take (p .len) (restOf area p))
+    rest-stored = part-stored p e ∙ ap (storedPart (i .form)) (sym (rest-part area p))
 
-    pub cut-released : Within area i → i .form ≡ 6 → 3 ≤ length (cutOf area p)
-    cut-released w six =
-        omega (arith, w .inside p e, w .released p e six, length-take (p .start + p .len - p .start) (drop (p .start) area), length-drop (p .start) area)
+    pub rest-holds : Within area i → p .len ≤ length (restOf area p)
+    rest-holds w = omega (arith, w .inside p e, length-take (length area - p .start) (drop (p .start) area), length-drop (p .start) area)
 
-    pub cut-room : (at room : ℕ) → at + length (storedIn area i) + 8 ≤ room → at + length (storedPart (i .form) (cutOf area p)) ≤ room
-    cut-room at room h = omega (arith, ap length cut-stored)
+    pub rest-room : (at room : ℕ) → at + length (storedIn area i) + 16 ≤ room → at + length (storedPart (i .form) (take (p .len) (restOf area p))) + 16 ≤ room
+    rest-room at room h = omega (arith, ap length rest-stored)
 
   item-length : length (itemIn area i) ≡ 4 + length (storedIn area i)
   unfolding itemIn namesOf
   item-length = omega arith
 
-  pub stored-room : (at room : ℕ) → at + length (itemIn area i) + 8 ≤ room → at + 4 + length (storedIn area i) + 8 ≤ room
+  pub stored-room : (at room : ℕ) → at + length (itemIn area i) + 16 ≤ room → at + 4 + length (storedIn area i) + 16 ≤ room
   stored-room at room h = omega (arith, item-length)
 
   -- an item is the names that stand there, form and count, and what it stores
-  module _ (at size : ℕ) (held first : List ℕ) (room : at + length (itemIn area i) + 8 ≤ length held) (w : Put (at + 4) (storedIn area i) held size first) where
+  module _ (at size : ℕ) (held first : List ℕ) (room : at + length (itemIn area i) + 16 ≤ length held) (w : Put (at + 4) (storedIn area i) held size first) where
     -- form and count have room
     pub form-room : at + 4 ≤ length first
     form-room = omega (arith, w .holds .kept)

@@ -94,7 +94,7 @@ module _ (l : List ℕ) (place n : ℕ) (p : Part) (behind : ℕ) (g : Stands l 
   number-low = g .carried o .low
 
   -- and its names have room
-  pub names-fit : (d out : List ℕ) (count written : ℕ) → Passing l d out place count written → 2 * length l + 8 ≤ length d → written + 2 ≤ length out
+  pub names-fit : (d out : List ℕ) (count written : ℕ) → Passing l d out place count written → 2 * length l + 16 ≤ length d → written + 2 ≤ length out
   names-fit d out count written k room = omega (arith, k .few, k .held .kept, g .onwards, g .inside)
 
   -- the item of the attribute
@@ -126,9 +126,9 @@ module _ (l : List ℕ) (place n : ℕ) (p : Part) (behind : ℕ) (g : Stands l 
       item-inside = omega (arith, ap length octets-are, item-bound, k .few)
 
       -- its names were laid behind the items before it
-      module _ (room : 2 * length l + 8 ≤ length d) (named : List ℕ) (first : named ≡ laidAt written (namesOf n) out) where
+      module _ (room : 2 * length l + 16 ≤ length d) (named : List ℕ) (first : named ≡ laidAt written (namesOf n) out) where
         -- there is room for the item and eight octets more
-        pub item-fits : written + length (itemIn l i) + 8 ≤ length named
+        pub item-fits : written + length (itemIn l i) + 16 ≤ length named
         item-fits = laid-keeps written (namesOf n) out named _ first (omega (arith, item-inside, k .held .kept, g .inside))
 
         names-begun : Begun written (namesOf (i .number)) out named

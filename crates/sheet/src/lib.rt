@@ -10,7 +10,7 @@ ghost use mathlib.Core.Bool.{cond};
 ghost use mathlib.Core.List.{List, [], _∷_};
 ghost use Prim.Native.Nat.{ℕ, _+_, _-_, _*_, _%_, _≤_, _<_};
 ghost use lib.Dec.{eqb};
-ghost use lib.ListN.{length, drop, getD};
+ghost use lib.ListN.{length, take, drop, getD};
 ghost use Rattle.meaning.specs.Octets.{octetsOf, pack, packedLength, digitValue};
 ghost use Rattle.octets.specs.Parts.{laidAt, Begun};
 ghost use Rattle.octets.specs.DigitStrings.{halves};
@@ -91,25 +91,30 @@ fn put_qos(buf: &mut [u8], at: usize, text: &[u8]) -> usize
     1 + octets::packed_len(text.len() - 3)
 }
 
-// Lays plain octets: as they stand, in form 5 as packed text, in form 6 as a QoS profile.
-fn put_part(buf: &mut [u8], at: usize, form: u8, v: &[u8]) -> usize
-    requires { ⌜ (form ≡ 6 → 3 ≤ length (now v)) × (at + length (storedPart form (now v)) ≤ length (now buf)) ⌝ }
-    ensures { λ r. ⌜ Put at (storedPart form (now (v .entry))) (now (buf .entry)) r (now (buf .exit)) ⌝ }
+// Lays plain octets, the first `len` of `rest`: as they stand, in form 5 as packed text, in form 6 as a QoS profile. With sixteen octets
+// of room behind them, which may change: a few go with what stands behind them.
+fn put_part(buf: &mut [u8], at: usize, form: u8, rest: &[u8], len: usize) -> usize
+    requires { ⌜ (form ≡ 6 → 3 ≤ len) × ((len ≤ length (now rest)) × (at + length (storedPart form (take len (now rest))) + 16 ≤ length (now buf))) ⌝ }
+    ensures { λ r. ⌜ Put at (storedPart form (take len (now (rest .entry)))) (now (buf .entry)) r (now (buf .exit)) ⌝ }
 {
     if form == 5 {
-        octets::pack_at(buf, at, v);
-        return octets::packed_len(v.len());
+        octets::pack_at(buf, at, &rest[..len]);
+        return octets::packed_len(len);
     }
     if form == 6 {
-        return put_qos(buf, at, v);
+        return put_qos(buf, at, &rest[..len]);
     }
-    octets::copy_at(buf, at, v);
-    v.len()
+    if len <= 16 {
+        octets::copy_sixteen(buf, at, rest);
+    } else {
+        octets::copy_at(buf, at, &rest[..len]);
+    }
+    len
 }
 
-// Lays what an item stores, with eight octets of room behind it, which may change.
+// Lays what an item stores, with sixteen octets of room behind it, which may change.
 fn put_stored(buf: &mut [u8], at: usize, area: &[u8], item: Item) -> usize
-    requires { ⌜ Within (now area) item × (at + length (storedIn (now area) item) + 8 ≤ length (now buf)) ⌝ }
+    requires { ⌜ Within (now area) item × (at + length (storedIn (now area) item) + 16 ≤ length (now buf)) ⌝ }
     ensures { λ r. ⌜ Put at (storedIn (now (area .entry)) item) (now (buf .entry)) r (now (buf .exit)) ⌝ }
 {
     let value = item.value;
@@ -129,8 +134,7 @@ fn put_stored(buf: &mut [u8], at: usize, area: &[u8], item: Item) -> usize
         }
         Value::Plain(p) => {
             let start = p.start;
-            let end = start + p.len;
-            return put_part(buf, at, form, &area[start..end]);
+            return put_part(buf, at, form, &area[start..], p.len);
         }
     }
 }
@@ -152,7 +156,7 @@ fn put_names(buf: &mut [u8], at: usize, number: u16)
 // Lays an item whose type and sub-attribute number stand there already, over what the buffer d held: what it stores, with the same room
 // behind it, and its form and count before that.
 fn put_item(buf: &mut [u8], at: usize, area: &[u8], item: Item) -> usize
-    requires { ⌜ (item .count < 256) × Within (now area) item × (at + length (itemIn (now area) item) + 8 ≤ length (now buf)) ⌝ }
+    requires { ⌜ (item .count < 256) × Within (now area) item × (at + length (itemIn (now area) item) + 16 ≤ length (now buf)) ⌝ }
     ensures { λ r. ⌜ ((d : List ℕ) → Begun at (namesOf (item .number)) d (now (buf .entry)) → Put at (itemIn (now (area .entry)) item) d r (now (buf .exit))) ⌝ }
 {
     let size = put_stored(buf, at + 4, area, item);
@@ -162,9 +166,9 @@ fn put_item(buf: &mut [u8], at: usize, area: &[u8], item: Item) -> usize
 }
 
 // Lays the items of an area at the buffer's start, one behind the other, and counts them; or gives the first refusal of the framing.
-// "A sheet is never longer than 9 + 2 x area length": the buffer has room for the items of any area so long, and for eight octets more.
+// "A sheet is never longer than 9 + 2 x area length": the buffer has room for the items of any area so long, and for sixteen octets more.
 fn put_items(area: &[u8], buf: &mut [u8]) -> Tally
-    requires { ⌜ 2 * length (now area) + 8 ≤ length (now buf) ⌝ }
+    requires { ⌜ 2 * length (now area) + 16 ≤ length (now buf) ⌝ }
     ensures { λ r. ⌜ PassSays (now (area .entry)) r (now (buf .exit)) ⌝ }
 {
     let mut place: usize = 0;
@@ -217,7 +221,7 @@ fn sheet_head(kind: u32, flags: u32, count: usize) -> [u8; 9]
 // The sheet of an area that comes with a fit kind, flags and length, at the start of `sheet`, or the first of refusals 4 to 9. Its items
 // are laid into `buf` and copied from there, so that nothing is written before every refusal is ruled out.
 fn lay(area: &[u8], kind: u32, flags: u32, buf: &mut [u8], sheet: &mut [u8]) -> Reading
-    requires { ⌜ (arrivalOf kind flags (length (now area)) ≡ Fit) × (2 * length (now area) + 8 ≤ length (now buf)) ⌝ }
+    requires { ⌜ (arrivalOf kind flags (length (now area)) ≡ Fit) × (2 * length (now area) + 16 ≤ length (now buf)) ⌝ }
     ensures { λ r. ⌜ Read kind flags (now (area .entry)) (now (sheet .entry)) r (now (sheet .exit)) ⌝ }
 {
     match put_items(area, buf) {
@@ -246,10 +250,10 @@ fn sheet_of(area: &[u8], kind: u32, flags: u32, sheet: &mut [u8]) -> Reading
     ensures { λ r. ⌜ Read kind flags (now (area .entry)) (now (sheet .entry)) r (now (sheet .exit)) ⌝ }
 {
     if area.len() <= 384 {
-        let mut short = [0u8; 776];
+        let mut short = [0u8; 784];
         return lay(area, kind, flags, &mut short, sheet);
     }
-    let mut long = [0u8; 8160];
+    let mut long = [0u8; 8168];
     lay(area, kind, flags, &mut long, sheet)
 }
 

@@ -1,7 +1,7 @@
 -- `sheet::put_stored` meets its contract. Assumes nothing.
 use borrow.Author.Needs.{needs}
 use native.Mathlib.Omega.{arith}
-use Rattle.sheet.proofs.Laying.{put-as, put-address, digits-put, number-stored, address-stored, digits-stored, cut-stored, cut-released, cut-room}
+use Rattle.sheet.proofs.Laying.{put-as, put-address, digits-put, number-stored, address-stored, digits-stored, rest-stored, rest-holds, rest-room}
 use Rattle.sheet.proofs.put_stored.Statement.{statement}
 use Rattle.sheet.proofs.put_stored.Tie as tie
 
@@ -56,26 +56,26 @@ returns-3 c = put-as _ _ _ _ _ _ (digits-stored _ _ (c .before .before .before .
 enum-known-value-3 : tie.Need-enum-known-value-3
 enum-known-value-3 c = search needs
 
-add-end : tie.Need-add-end
-add-end c = omega (arith, c .before .before .before .before .before .before .pre .0 .inside _ (c .before .before .value3 .given .1))
-
 sub-put-part : tie.Need-sub-put-part
-sub-put-part c = search needs
+sub-put-part c = omega (arith, c .before .before .before .before .before .before .pre .0 .inside _ (c .before .before .value3 .given .1))
 
 part-put-part-start : tie.Need-part-put-part-start
-part-put-part-start c = search needs
+part-put-part-start c = omega (arith, c .before .before .before .before .before .before .pre .0 .inside _ (c .before .before .value3 .given .1))
 
 part-put-part-end : tie.Need-part-put-part-end
-part-put-part-end c = c .before .before .before .before .before .before .before .pre .0 .inside _ (c .before .before .before .value3 .given .1)
+part-put-part-end c = search needs
 
 put-part-requires : tie.Need-put-part-requires
-put-part-requires c κs = (cut-released _ _ _ (c .before .before .before .before .value3 .given .1) (c .before .before .before .before .before .before .before .before .pre .0), cut-room _ _ _ (c .before .before .before .before .value3 .given .1) _ _ (c .before .before .before .before .before .before .before .before .pre .1))
+put-part-requires c κs =
+    let s = c .before .before .before .before .before .before .before in
+    let is = c .before .before .before .value3 .given .1 in
+    (s .pre .0 .released _ is, (rest-holds _ _ _ is (s .pre .0), rest-room _ _ _ is _ _ (s .pre .1)))
 
 same-length-4 : tie.Need-same-length-4
 same-length-4 c = search needs
 
 returns-4 : tie.Need-returns-4
-returns-4 c = put-as _ _ _ _ _ _ (cut-stored _ _ _ (c .before .before .before .before .before .before .before .value3 .given .1)) (c .before .before .put-part .ensures)
+returns-4 c = put-as _ _ _ _ _ _ (rest-stored _ _ _ (c .before .before .before .before .before .before .value3 .given .1)) (c .before .before .put-part .ensures)
 
 pub put-stored-spec : {M : Type 1} → statement M
 put-stored-spec =
@@ -98,7 +98,6 @@ put-stored-spec =
     same-length-3
     returns-3
     enum-known-value-3
-    add-end
     sub-put-part
     part-put-part-start
     part-put-part-end
