@@ -1,8 +1,10 @@
 -- The whole sheet: its head and its items one behind the other, and what reading answers. Assumes nothing.
 use mathlib.Core.Path.{_≡_, refl, sym, ap, subst, _∙_}
+use mathlib.Core.Bool.{Bool, true, false}
 use mathlib.Core.List.{List, _++_}
 use Prim.Native.Nat.{ℕ, _+_, _*_, _≤_, _<_}
 use native.Mathlib.Omega.{arith}
+use lib.Dec.{ltb}
 use lib.ListN.{length, take, length-append}
 use borrow.Author.Tests.{lt-ltb, le-ltb}
 use Rattle.meaning.specs.Octets.{Octets, octetsOf}
@@ -18,18 +20,19 @@ use Rattle.area.specs.declared.Refusal.{Refusal}
 use Rattle.area.specs.declared.Arrival.the-variants.{Fit}
 use Rattle.area.specs.Answers.{inBook, arrivalOf}
 use Rattle.area.proofs.Arriving.{fit-arrived}
+use Rattle.sheet.specs.declared.Reading.{Reading}
 use Rattle.sheet.specs.declared.Reading.the-variants.{Sheet, Refused}
 use Rattle.sheet.specs.declared.Tally.{Tally}
 use Rattle.sheet.specs.declared.Tally.the-variants.{Whole, Broken}
 use Rattle.sheet.specs.Items.{sheetHead, itemsIn, Passed, PassSays}
-use Rattle.sheet.specs.Answers.{Read}
+use Rattle.sheet.specs.Answers.{HandedOver, Read}
 
 -- a sheet is its head and its items
 sheet-parts : (kind flags count : ℕ) (area : List ℕ) → count ≡ length (attributes (walk area)) → sheetOf kind flags area ≡ sheetHead kind flags count ++ itemsIn area
 unfolding sheetOf sheetWith sheetHead itemsIn octetsOf
 sheet-parts kind flags count area e = rw e
 
-head-long : (kind flags count : ℕ) → length (sheetHead kind flags count) ≡ 9
+pub head-long : (kind flags count : ℕ) → length (sheetHead kind flags count) ≡ 9
 unfolding sheetHead octetsOf
 head-long kind flags count = refl
 
@@ -51,52 +54,44 @@ module _ (kind flags : ℕ) (area : List ℕ) (count written : ℕ) (made : List
       ap length (sheet-parts kind flags count area (y .counts)) ∙ length-append (sheetHead kind flags count) (itemsIn area)
       ∙ omega (arith, head-long kind flags count, y .long)
 
-  -- what the head's octets and the sum ask for
-  pub record Bounded : Type 0 where
-    pub kind-low : kind < 256
-    pub flags-low : flags < 256
-    pub few : count < 65536
-    pub small : written ≤ 8152
-
-  pub bounded : Octets area → Bounded
+  -- what handing over asks for
+  pub bounded : Octets area → (kind < 256) × (flags < 256) × (count < 65536) × (length (take written made) ≤ 8152)
   bounded o =
       let r : Readable kind flags area = record { octets = o; accepted = y .accepted } in
       let c = clear kind flags area (y .accepted) in
-      record {
-        kind-low = kind-octet kind (c .kind-ok);
-        flags-low = flags-octet flags (c .flags-ok);
-        few = omega (arith, items-fit kind flags area r, y .counts);
-        small = omega (arith, sheet-bound kind flags area r, sheet-long, c .short);
-      }
+      (kind-octet kind (c .kind-ok), flags-octet flags (c .flags-ok), omega (arith, items-fit kind flags area r, y .counts), omega (arith, sheet-bound kind flags area r, sheet-long, c .short, ap length (y .laid), y .long))
 
-  module _ (d : List ℕ) where
-    -- refusal 9: nothing was written
-    pub too-long : length d < 9 + written → Read kind flags area d (Refused (record { number = 9; second = 9 + written })) d
-    unfolding readAnswer areaOrder after
-    too-long h =
-        let t = lt-ltb (length d) (length (sheetOf kind flags area)) (omega (arith, sheet-long)) in
-        record { says = rw (← sheet-long, y .accepted, t); holds = rw (y .accepted, t) }
+  -- what is handed over is what reading answers
+  pub handed-read : (items d : List ℕ) (said : Reading) (held : List ℕ) → items ≡ take written made → HandedOver (sheetHead kind flags count) items d said held → Read kind flags area d said held
+  unfolding readAnswer areaOrder after
+  handed-read items d said held e h = go (ltb (length d) (length (sheetOf kind flags area))) refl (subst (λ (l : List ℕ). HandedOver (sheetHead kind flags count) l d said held) (e ∙ y .laid) h)
+    where
+      size : 9 + length (itemsIn area) ≡ length (sheetOf kind flags area)
+      size = omega (arith, sheet-long, y .long)
 
-    -- The sheet: its head over the buffer's start, its items right behind it.
-    module _ (headed : List ℕ) (room : 9 + written ≤ length d) (hd : headed ≡ laidAt 0 (sheetHead kind flags count) d) where
-      sheet-laid : (held : List ℕ) → held ≡ laidAt 9 (itemsIn area) headed → Read kind flags area d (Sheet (9 + written)) held
-      unfolding readAnswer areaOrder after
-      sheet-laid held h =
-          let head : List ℕ = sheetHead kind flags count in
-          let nine : length head ≡ 9 = head-long kind flags count in
-          let t = le-ltb (length d) (length (sheetOf kind flags area)) (omega (arith, sheet-long)) in
-          let first : headed ≡ over head d = hd ∙ laid-first head d (omega arith) in
-          let behind : laidAt 9 (itemsIn area) headed ≡ over (head ++ itemsIn area) d = laid-behind head (itemsIn area) d headed 9 nine first (omega (arith, y .long)) in
+      go : (b : Bool) → ltb (length d) (length (sheetOf kind flags area)) ≡ b → HandedOver (sheetHead kind flags count) (itemsIn area) d said held → Read kind flags area d said held
+      go true t w = record { says = rw (y .accepted, t) (rw (size, t) at (w .says)); holds = rw (y .accepted, t) (rw (size, t) at (w .holds)) }
+      go false t w =
           record {
-            says = rw (y .accepted, t) (ap Sheet (sym sheet-long));
-            holds =
-                rw (y .accepted, t)
-                (h ∙ behind ∙ ap (λ (s : List ℕ). over s d) (sym (sheet-parts kind flags count area (y .counts))));
+            says = rw (y .accepted, t) (rw (size, t) at (w .says));
+            holds = rw (y .accepted, t) ((rw (size, t) at (w .holds)) ∙ ap (λ (s : List ℕ). over s d) (sym (sheet-parts kind flags count area (y .counts))));
           }
 
-      -- the items were copied
-      pub sheet-copied : (held : List ℕ) → held ≡ laidAt 9 (take written made) headed → Read kind flags area d (Sheet (9 + written)) held
-      sheet-copied held e = sheet-laid held (e ∙ ap (λ (s : List ℕ). laidAt 9 s headed) (y .laid))
+-- ---- Handing over
+
+module _ (head items d : List ℕ) where
+  -- refusal 9: nothing was written
+  pub no-room : length d < 9 + length items → HandedOver head items d (Refused (record { number = 9; second = 9 + length items })) d
+  no-room h = let t = lt-ltb (length d) (9 + length items) h in record { says = rw t; holds = rw t }
+
+  -- the head over the buffer's start, the items right behind it
+  pub both-laid : (headed held : List ℕ) → length head ≡ 9 → 9 + length items ≤ length d → headed ≡ laidAt 0 head d → held ≡ laidAt 9 items headed → HandedOver head items d (Sheet (9 + length items)) held
+  both-laid headed held nine room first behind =
+      let t = le-ltb (length d) (9 + length items) room in
+      record {
+        says = rw t;
+        holds = rw t (behind ∙ laid-behind head items d headed 9 nine (first ∙ laid-first head d (omega arith)) room);
+      }
 
 -- ---- The pass
 

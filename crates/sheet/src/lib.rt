@@ -18,7 +18,7 @@ ghost use Rattle.area.specs.Answers.{arrivalOf};
 ghost use Rattle.area.specs.declared.Arrival.the-variants.{Fit};
 ghost use Rattle.shape.specs.Items.{storedPart, storedIn};
 ghost use Rattle.sheet.specs.Items.{namesOf, itemIn, Within, Put, sheetHead, PassSays};
-ghost use Rattle.sheet.specs.Answers.{Read};
+ghost use Rattle.sheet.specs.Answers.{HandedOver, Read};
 
 // What reading answers: the octets of the sheet that stands at the buffer's start, or a refusal.
 pub enum Reading {
@@ -218,43 +218,55 @@ fn sheet_head(kind: u32, flags: u32, count: usize) -> [u8; 9]
     ]
 }
 
-// The sheet of an area that comes with a fit kind, flags and length, at the start of `sheet`, or the first of refusals 4 to 9. Its items
-// are laid into `buf` and copied from there, so that nothing is written before every refusal is ruled out.
-fn lay(area: &[u8], kind: u32, flags: u32, buf: &mut [u8], sheet: &mut [u8]) -> Reading
-    requires { ⌜ (arrivalOf kind flags (length (now area)) ≡ Fit) × (2 * length (now area) + 16 ≤ length (now buf)) ⌝ }
+// Lays a sheet, its head and its items, at the buffer's start; or refusal 9 where it has not the room.
+fn hand_over(kind: u32, flags: u32, count: usize, items: &[u8], sheet: &mut [u8]) -> Reading
+    requires { ⌜ (kind < 256) × (flags < 256) × (count < 65536) × (length (now items) ≤ 8152) ⌝ }
+    ensures { λ r. ⌜ HandedOver (sheetHead kind flags count) (now (items .entry)) (now (sheet .entry)) r (now (sheet .exit)) ⌝ }
+{
+    let needed = 9 + items.len();
+    if sheet.len() < needed {
+        return Reading::Refused(Refusal {
+            number: 9,
+            second: needed,
+        });
+    }
+    let head = sheet_head(kind, flags, count);
+    octets::copy_at(sheet, 0, &head);
+    octets::copy_at(sheet, 9, items);
+    Reading::Sheet(needed)
+}
+
+// The sheet of an area that comes with a fit kind, flags and length, or the first of refusals 4 to 9. Its items are laid into a buffer and
+// copied from there, so that nothing is written before every refusal is ruled out. This one has room for the items of any area.
+fn long(area: &[u8], kind: u32, flags: u32, sheet: &mut [u8]) -> Reading
+    requires { ⌜ arrivalOf kind flags (length (now area)) ≡ Fit ⌝ }
     ensures { λ r. ⌜ Read kind flags (now (area .entry)) (now (sheet .entry)) r (now (sheet .exit)) ⌝ }
 {
-    match put_items(area, buf) {
+    let mut buf = [0u8; 8168];
+    match put_items(area, &mut buf) {
         Tally::Broken(refusal) => {
             return Reading::Refused(refusal);
         }
         Tally::Whole { count, written } => {
-            let needed = 9 + written;
-            if sheet.len() < needed {
-                return Reading::Refused(Refusal {
-                    number: 9,
-                    second: needed,
-                });
-            }
-            let head = sheet_head(kind, flags, count);
-            octets::copy_at(sheet, 0, &head);
-            octets::copy_at(sheet, 9, &buf[..written]);
-            return Reading::Sheet(needed);
+            return hand_over(kind, flags, count, &buf[..written], sheet);
         }
     }
 }
 
-// The same, with a buffer for the items: a short one for an area of up to 384 octets, since it takes less time to clear.
-fn sheet_of(area: &[u8], kind: u32, flags: u32, sheet: &mut [u8]) -> Reading
-    requires { ⌜ arrivalOf kind flags (length (now area)) ≡ Fit ⌝ }
+// The same of an area of up to 384 octets: a short buffer takes less time to clear.
+fn short(area: &[u8], kind: u32, flags: u32, sheet: &mut [u8]) -> Reading
+    requires { ⌜ (arrivalOf kind flags (length (now area)) ≡ Fit) × (length (now area) ≤ 384) ⌝ }
     ensures { λ r. ⌜ Read kind flags (now (area .entry)) (now (sheet .entry)) r (now (sheet .exit)) ⌝ }
 {
-    if area.len() <= 384 {
-        let mut short = [0u8; 784];
-        return lay(area, kind, flags, &mut short, sheet);
+    let mut buf = [0u8; 784];
+    match put_items(area, &mut buf) {
+        Tally::Broken(refusal) => {
+            return Reading::Refused(refusal);
+        }
+        Tally::Whole { count, written } => {
+            return hand_over(kind, flags, count, &buf[..written], sheet);
+        }
     }
-    let mut long = [0u8; 8168];
-    lay(area, kind, flags, &mut long, sheet)
 }
 
 // "Read: attribute area, kind and flags give a sheet", at the buffer's start; a refusal leaves the buffer as it was.
@@ -266,7 +278,10 @@ pub fn read(area: &[u8], kind: u32, flags: u32, sheet: &mut [u8]) -> Reading
             return Reading::Refused(refusal);
         }
         Arrival::Fit => {
-            return sheet_of(area, kind, flags, sheet);
+            if area.len() <= 384 {
+                return short(area, kind, flags, sheet);
+            }
+            return long(area, kind, flags, sheet);
         }
     }
 }

@@ -19,14 +19,23 @@ returns c =
 enum-told : tie.Need-enum-told
 enum-told c = search needs
 
-sheet-of-requires : tie.Need-sheet-of-requires
-sheet-of-requires c κs = sym (c .before .before .before .arrive .ensures) ∙ c .before .enum-told .given .1
+short-requires : tie.Need-short-requires
+short-requires c κs = (sym (c .before .before .before .before .arrive .ensures) ∙ c .before .before .enum-told .given .1, c .before .if1 .taken)
 
 same-length : tie.Need-same-length
 same-length c = search needs
 
 returns-2 : tie.Need-returns-2
 returns-2 c = search needs
+
+long-requires : tie.Need-long-requires
+long-requires c κs = sym (c .before .before .before .before .arrive .ensures) ∙ c .before .before .enum-told .given .1
+
+same-length-2 : tie.Need-same-length-2
+same-length-2 c = search needs
+
+returns-3 : tie.Need-returns-3
+returns-3 c = search needs
 
 pub read-spec : {M : Type 1} → statement M
 read-spec =
@@ -36,6 +45,9 @@ read-spec =
     enum-known-refusal
     returns
     enum-told
-    sheet-of-requires
+    short-requires
     same-length
-    returns-2)
+    returns-2
+    long-requires
+    same-length-2
+    returns-3)
