@@ -3,207 +3,194 @@ use mathlib.Core.Path.{_≡_, refl, sym, ap, ap₂, _∙_}
 use mathlib.Core.Bool.{Bool, true, false, cond, _&&_}
 use mathlib.Core.List.{List, [], _∷_, _++_, map, append-assoc}
 use Prim.Native.Nat.{ℕ, zero, suc, _+_, _*_, _-_, _/_, _%_, _^_, _<_, _≤_}
-use native.Mathlib.Nat.{pow-suc, pow-succ', pow-le-pow-right, mul-suc, mul-assoc, mul-right-comm, add-mul, add-assoc, add-zero, one-mul, mod-eq-of-lt, mul-div-cancel, mul-mod-left, div-le-self, lt-of-le-of-lt}
+use native.Mathlib.Nat.{suc-mul, pow-suc, pow-succ', pow-le-pow-right, mul-suc, mul-assoc, mul-right-comm, add-mul, add-assoc, add-zero, one-mul, mod-eq-of-lt, mul-div-cancel, mul-mod-left, div-le-self, lt-of-le-of-lt}
 use native.Mathlib.Numerals.{unary-clauses}
 use native.Mathlib.Omega.{arith}
-use borrow.Author.Tests.{le-leb, eq-eqb, leb-true}
+use borrow.Author.Tests.{leb-true, leb-false, eq-eqb, ne-eqb}
 use mir.Syntax.{w64}
 use mir.Val.{Fits}
 use lib.Arith.{digits-mod, digits-lt, mod-mul}
-use lib.Bits.{bitAnd, and-block, and-mask, and-high, and-zero-r, and-le-r}
-use lib.Dec.{eqb, leb, eqb→eq, eqb-refl}
+use lib.Bits.{bitAnd, bitOr, bitXor, and-block, or-block, xor-block, and-mask, and-high, and-zero-r, or-zero-l, and-le-l, and-le-r, xor-lt, or-add-and}
+use lib.Dec.{T, eqb, leb}
 use lib.ListN.{length, take, drop, replicate, replicate-append-replicate, length-replicate, length-append, length-map, length-drop, take-append-drop}
 use lib.Pow.{pow-add, add-lt-pow, shl-exact, mod-mod-pow}
 use lib.Seq.{length-take-le, drop-drop}
-use Rattle.meaning.specs.Octets.{Octets, all, same, numberOf, octetsOf, pack, isDigit}
-use Rattle.meaning.proofs.Numbers.{number-fits, number-one, number-back, octets-octets}
-use Rattle.meaning.proofs.Packing.{Halves, pack-length}
-use Rattle.meaning.proofs.Tests.{both, parts, passes, is-true, same-one, same-itself}
+use Rattle.meaning.specs.Octets.{Octets, all, numberOf, octetsOf, pack}
+use Rattle.meaning.proofs.Numbers.{number-fits, number-back, octets-octets, octets-back}
+use Rattle.meaning.proofs.Packing.{Halves, pack-length, pack-octets}
+use Rattle.meaning.proofs.Tests.{parts, passes, is-true}
 use Rattle.meaning.specs.Answers.{over}
-use Rattle.octets.specs.DigitStrings.{padded, heldOf}
-use Rattle.octets.proofs.EachOne.{same-test}
+use Rattle.octets.specs.DigitStrings.{padded, turnedOf, belowTen}
 use Rattle.octets.proofs.Halves.{padded-length}
 
 -- powers of a power
-pub powers : (b k n : ℕ) → b ^ (k * n) ≡ (b ^ k) ^ n
+powers : (b k n : ℕ) → b ^ (k * n) ≡ (b ^ k) ^ n
 powers b k zero = simp unary-clauses
 powers b k (suc n) = ap (λ (i : ℕ). b ^ i) (mul-suc k n) ∙ pow-add b (k * n) k ∙ ap (λ (p : ℕ). p * b ^ k) (powers b k n) ∙ sym (pow-suc (b ^ k) n)
 
--- ---- Bits, octet by octet
-
--- the bits that the octets of two lists have in common
-unfoldable common : (l m : List ℕ) → List ℕ
-common [] m = []
-common (x ∷ l) [] = []
-common (x ∷ l) (y ∷ m) = bitAnd x y ∷ common l m
-
-common-length : (l m : List ℕ) → length l ≡ length m → length (common l m) ≡ length l
-unfolding common
-common-length [] m e = refl
-common-length (x ∷ l) [] e = absurd (omega arith)
-common-length (x ∷ l) (y ∷ m) e = ap suc (common-length l m (omega arith))
-
-number-common : (l m : List ℕ) → Octets l → Octets m → length l ≡ length m → bitAnd (numberOf l) (numberOf m) ≡ numberOf (common l m)
-unfolding numberOf common
-number-common [] [] o q e = refl
-number-common [] (y ∷ m) o q e = absurd (omega arith)
-number-common (x ∷ l) [] o q e = absurd (omega arith)
-number-common (x ∷ l) (y ∷ m) o q e =
-    let n : length m ≡ length l = omega arith in
-    let p : 256 ^ length l ≡ 2 ^ (8 * length l) = sym (powers 2 8 (length l)) in
-    let a : numberOf l < 2 ^ (8 * length l) = rw p at (number-fits l (o .1)) in
-    let b : numberOf m < 2 ^ (8 * length l) = rw (n, p) at (number-fits m (q .1)) in
-    rw (n, common-length l m (sym n), p) (and-block (8 * length l) x y (numberOf l) (numberOf m) a b ∙ ap (λ (r : ℕ). bitAnd x y * 2 ^ (8 * length l) + r) (number-common l m (o .1) (q .1) (sym n)))
+-- ---- Octet by octet
 
 map-octets : (f : ℕ → ℕ) → ((x : ℕ) → x < 256 → f x < 256) → (l : List ℕ) → Octets l → Octets (map f l)
 map-octets f h [] o = tt
 map-octets f h (x ∷ l) o = (h x (o .0), map-octets f h l (o .1))
 
--- one and the same mask for each octet
-module _ (mask : ℕ) (f : ℕ → ℕ) (small : mask < 256) (is : (x : ℕ) → x < 256 → bitAnd x mask ≡ f x) where
-  each-common : (l : List ℕ) → Octets l → common l (map (λ x. mask) l) ≡ map f l
-  unfolding common
-  each-common [] o = refl
-  each-common (x ∷ l) o = ap₂ (λ (y : ℕ) (m : List ℕ). y ∷ m) (is x (o .0)) (each-common l (o .1))
+-- What takes no carry from one part of a number to the next is done to its octets, one by one.
+module _ (op : ℕ → ℕ → ℕ) (none : op 0 0 ≡ 0) (block : (k a b r s : ℕ) → r < 2 ^ k → s < 2 ^ k → op (a * 2 ^ k + r) (b * 2 ^ k + s) ≡ op a b * 2 ^ k + op r s) where
+  number-each : {A : Type 0} (f g : A → ℕ) (l : List A) → Octets (map f l) → Octets (map g l) → op (numberOf (map f l)) (numberOf (map g l)) ≡ numberOf (map (λ x. op (f x) (g x)) l)
+  unfolding numberOf
+  number-each f g [] o q = none
+  number-each f g (x ∷ l) o q =
+      let p : 256 ^ length l ≡ 2 ^ (8 * length l) = sym (powers 2 8 (length l)) in
+      let a : numberOf (map f l) < 2 ^ (8 * length l) = rw (length-map l f, p) at (number-fits (map f l) (o .1)) in
+      let b : numberOf (map g l) < 2 ^ (8 * length l) = rw (length-map l g, p) at (number-fits (map g l) (q .1)) in
+      rw (length-map l f, length-map l g, length-map l (λ x. op (f x) (g x)), p) (block (8 * length l) (f x) (g x) _ _ a b ∙ ap (λ (r : ℕ). op (f x) (g x) * 2 ^ (8 * length l) + r) (number-each f g l (o .1) (q .1)))
 
-  number-each : (l : List ℕ) → Octets l → bitAnd (numberOf l) (numberOf (map (λ x. mask) l)) ≡ numberOf (map f l)
-  number-each l o = number-common l (map (λ x. mask) l) o (map-octets (λ x. mask) (λ x h. small) l o) (sym (length-map l (λ x. mask))) ∙ ap numberOf (each-common l o)
+  -- two numbers of which each octet comes of the same octet
+  octets-each : (f g : ℕ → ℕ) → ((x : ℕ) → x < 256 → f x < 256) → ((x : ℕ) → x < 256 → g x < 256) → (l : List ℕ) → Octets l → op (numberOf (map f l)) (numberOf (map g l)) ≡ numberOf (map (λ x. op (f x) (g x)) l)
+  octets-each f g hf hg l o = number-each f g l (map-octets f hf l o) (map-octets g hg l o)
 
--- each octet kept whole or made 0
-abbrev kept : List Bool → List ℕ → List ℕ
-kept [] l = []
-kept (k ∷ ks) [] = []
-kept (k ∷ ks) (x ∷ l) = cond k x 0 ∷ kept ks l
+-- So two bits of each of eight octets are turned.
+pub eight-turned : (a : ℕ) → a < 256 ^ 8 → octetsOf 8 (bitXor a 0x3030303030303030) ≡ turnedOf (octetsOf 8 a)
+unfolding numberOf octetsOf turnedOf
+eight-turned a h =
+    let l : List ℕ = octetsOf 8 a in
+    let o : Octets l = octets-octets 8 a in
+    let number : bitXor a 0x3030303030303030 ≡ numberOf (map (λ x. bitXor x 48) l) =
+    ap (λ (n : ℕ). bitXor n 0x3030303030303030) (sym (number-back 8 a h)) ∙ octets-each bitXor refl xor-block (λ x. x) (λ x. 48) (λ x k. k) (λ x k. omega arith) l o in
+    ap (octetsOf 8) number ∙ octets-back (map (λ x. bitXor x 48) l) (map-octets (λ x. bitXor x 48) (λ x k. xor-lt 8 x 48 k (omega arith)) l o)
 
-abbrev masks : List Bool → List ℕ
-masks = map (λ k. cond k 255 0)
+-- ---- Eight octets are below 10
 
-masks-octets : (ks : List Bool) → Octets (masks ks)
-masks-octets [] = tt
-masks-octets (true ∷ ks) = (omega arith, masks-octets ks)
-masks-octets (false ∷ ks) = (omega arith, masks-octets ks)
+-- two numbers are 0 where all their bits together are
+pub or-zero : (p q : ℕ) → bitOr p q ≡ 0 → (p ≡ 0) × (q ≡ 0)
+or-zero p q e = (omega (arith, or-add-and p q, and-le-r p q), omega (arith, or-add-and p q, and-le-l p q))
 
-kept-common : (ks : List Bool) (l : List ℕ) → Octets l → length l ≡ length ks → common l (masks ks) ≡ kept ks l
-unfolding common
-kept-common [] [] o e = refl
-kept-common [] (x ∷ l) o e = absurd (omega arith)
-kept-common (k ∷ ks) [] o e = absurd (omega arith)
-kept-common (true ∷ ks) (x ∷ l) o e = ap₂ (λ (y : ℕ) (m : List ℕ). y ∷ m) (and-mask x 8 ∙ mod-eq-of-lt (o .0)) (kept-common ks l (o .1) (omega arith))
-kept-common (false ∷ ks) (x ∷ l) o e = ap₂ (λ (y : ℕ) (m : List ℕ). y ∷ m) (and-zero-r x) (kept-common ks l (o .1) (omega arith))
+some-not : (n : ℕ) → eqb (suc n) 0 ≡ false
+some-not n = ne-eqb (suc n) 0 (λ e. omega arith)
 
-number-kept : (ks : List Bool) (l : List ℕ) (n : ℕ) → n ≡ numberOf l → Octets l → length l ≡ length ks → bitAnd n (numberOf (masks ks)) ≡ numberOf (kept ks l)
-number-kept ks l n e o h =
-    ap (λ (m : ℕ). bitAnd m (numberOf (masks ks))) e
-    ∙ number-common l (masks ks) o (masks-octets ks) (h ∙ sym (length-map ks (λ k. cond k 255 0)))
-    ∙ ap numberOf (kept-common ks l o h)
+pub or-none : (p q : ℕ) → eqb (bitOr p q) 0 ≡ eqb p 0 && eqb q 0
+or-none zero q = ap (λ (n : ℕ). eqb n 0) (or-zero-l q)
+or-none (suc p) q = rw (some-not p) (ne-eqb (bitOr (suc p) q) 0 (λ e. omega (arith, or-zero (suc p) q e)))
 
--- ---- The low halves of eight octets
+sum-none : (y q r : ℕ) → 0 < q → eqb (y * q + r) 0 ≡ eqb y 0 && eqb r 0
+sum-none zero q r h = let e : 0 * q + r ≡ r = omega arith in rw e
+sum-none (suc y) q r h = rw (some-not y) (ne-eqb (suc y * q + r) 0 (λ e. omega (arith, suc-mul y q)))
 
--- eight halves, each in an octet, are put two to an octet
+-- a number is 0 where each octet is, told by a test of what the octet comes of
+number-none : (f : ℕ → ℕ) (p : ℕ → Bool) → ((x : ℕ) → x < 256 → eqb (f x) 0 ≡ p x) → (l : List ℕ) → Octets l → eqb (numberOf (map f l)) 0 ≡ all p l
+unfolding numberOf
+number-none f p is [] o = refl
+number-none f p is (x ∷ l) o =
+    sum-none (f x) (256 ^ length (map f l)) (numberOf (map f l)) (pow-le-pow-right {n = 256} (omega arith) {i = 0} (omega arith))
+    ∙ ap₂ _&&_ (is x (o .0)) (number-none f p is l (o .1))
+
+-- what an octet is beyond 9: its high half, and that which it has with 6 more
+abbrev excess : ℕ → ℕ
+excess x = bitOr (bitAnd x 240) (bitAnd (bitAnd x 15 + 6) 240)
+
+excess-none : (x : ℕ) → x < 256 → eqb (excess x) 0 ≡ leb x 9
+excess-none x h =
+    go (bitAnd x 240) (bitAnd (bitAnd x 15 + 6) 240) (leb x 9) (and-high x 4 4 ∙ omega arith) (and-high (bitAnd x 15 + 6) 4 4 ∙ omega (arith, and-mask x 4)) refl
+  where
+    go : (p q : ℕ) (b : Bool) → p ≡ x / 16 * 16 → q ≡ (x % 16 + 6) / 16 * 16 → leb x 9 ≡ b → eqb (bitOr p q) 0 ≡ b
+    go p q true high low e =
+        let k : x ≤ 9 = leb-true x 9 e in
+        eq-eqb (bitOr p q) 0 (omega (arith, or-add-and p q))
+    go p q false high low e =
+        let k : 9 < x = leb-false x 9 e in
+        ne-eqb (bitOr p q) 0 (λ z. omega (arith, or-zero p q z))
+
+-- a sum goes part by part
+sum-block : (k a b r s : ℕ) → r < 2 ^ k → s < 2 ^ k → (a * 2 ^ k + r) + (b * 2 ^ k + s) ≡ (a + b) * 2 ^ k + (r + s)
+sum-block k a b r s h g = rw (add-mul a b (2 ^ k)) (omega arith)
+
+-- So eight octets are tested at once.
+pub eight-below : (d : ℕ) → d < 256 ^ 8 → eqb (bitOr (bitAnd d 0xF0F0F0F0F0F0F0F0) (bitAnd (bitAnd d 0x0F0F0F0F0F0F0F0F + 0x0606060606060606) 0xF0F0F0F0F0F0F0F0)) 0 ≡ belowTen (octetsOf 8 d)
+unfolding numberOf octetsOf
+eight-below d h =
+    let l : List ℕ = octetsOf 8 d in
+    let o : Octets l = octets-octets 8 d in
+    let back : d ≡ numberOf l = sym (number-back 8 d h) in
+    let high : bitAnd d 0xF0F0F0F0F0F0F0F0 ≡ numberOf (map (λ x. bitAnd x 240) l) =
+    ap (λ (n : ℕ). bitAnd n 0xF0F0F0F0F0F0F0F0) back ∙ octets-each bitAnd refl and-block (λ x. x) (λ x. 240) (λ x k. k) (λ x k. omega arith) l o in
+    let low : bitAnd d 0x0F0F0F0F0F0F0F0F ≡ numberOf (map (λ x. bitAnd x 15) l) =
+    ap (λ (n : ℕ). bitAnd n 0x0F0F0F0F0F0F0F0F) back ∙ octets-each bitAnd refl and-block (λ x. x) (λ x. 15) (λ x k. k) (λ x k. omega arith) l o in
+    let more : bitAnd d 0x0F0F0F0F0F0F0F0F + 0x0606060606060606 ≡ numberOf (map (λ x. bitAnd x 15 + 6) l) =
+    ap (λ (n : ℕ). n + 0x0606060606060606) low ∙ octets-each _+_ refl sum-block (λ x. bitAnd x 15) (λ x. 6) (λ x k. omega (arith, and-le-r x 15)) (λ x k. omega arith) l o in
+    let passed : bitAnd (bitAnd d 0x0F0F0F0F0F0F0F0F + 0x0606060606060606) 0xF0F0F0F0F0F0F0F0 ≡ numberOf (map (λ x. bitAnd (bitAnd x 15 + 6) 240) l) =
+    ap (λ (n : ℕ). bitAnd n 0xF0F0F0F0F0F0F0F0) more ∙ octets-each bitAnd refl and-block (λ x. bitAnd x 15 + 6) (λ x. 240) (λ x k. omega (arith, and-le-r x 15)) (λ x k. omega arith) l o in
+    ap (λ (n : ℕ). eqb n 0) (ap₂ bitOr high passed ∙ octets-each bitOr refl or-block (λ x. bitAnd x 240) (λ x. bitAnd (bitAnd x 15 + 6) 240) (λ x k. omega (arith, and-le-r x 240)) (λ x k. omega (arith, and-le-r (bitAnd x 15 + 6) 240)) l o)
+    ∙ number-none excess (λ x. leb x 9) excess-none l o
+
+-- ---- Eight halves, each in an octet, two to an octet
+
+-- octets, each to be kept whole or made 0
+abbrev mask : Bool × ℕ → ℕ
+mask p = cond (p .0) 255 0
+
+abbrev kept : Bool × ℕ → ℕ
+kept p = cond (p .0) (p .1) 0
+
+mask-octets : (l : List (Bool × ℕ)) → Octets (map mask l)
+mask-octets [] = tt
+mask-octets ((true, x) ∷ l) = (omega arith, mask-octets l)
+mask-octets ((false, x) ∷ l) = (omega arith, mask-octets l)
+
+mask-kept : (l : List (Bool × ℕ)) → Octets (map (λ p. p .1) l) → map (λ p. bitAnd (p .1) (mask p)) l ≡ map kept l
+mask-kept [] o = refl
+mask-kept ((true, x) ∷ l) o = ap₂ (λ (y : ℕ) (m : List ℕ). y ∷ m) (and-mask x 8 ∙ mod-eq-of-lt (o .0)) (mask-kept l (o .1))
+mask-kept ((false, x) ∷ l) o = ap₂ (λ (y : ℕ) (m : List ℕ). y ∷ m) (and-zero-r x) (mask-kept l (o .1))
+
+number-kept : (l : List (Bool × ℕ)) (n : ℕ) → n ≡ numberOf (map (λ p. p .1) l) → Octets (map (λ p. p .1) l) → bitAnd n (numberOf (map mask l)) ≡ numberOf (map kept l)
+number-kept l n e o =
+    ap (λ (m : ℕ). bitAnd m (numberOf (map mask l))) e ∙ number-each bitAnd refl and-block (λ p. p .1) mask l o (mask-octets l) ∙ ap numberOf (mask-kept l o)
+
+-- eight halves are put two to an octet
 by-two : (a b c d e f g h x : ℕ) → Halves (a ∷ b ∷ c ∷ d ∷ e ∷ f ∷ g ∷ h ∷ []) → x ≡ numberOf (a ∷ b ∷ c ∷ d ∷ e ∷ f ∷ g ∷ h ∷ [])
     → bitAnd (x + x / 16) 0x00FF00FF00FF00FF ≡ numberOf (0 ∷ (a * 16 + b) ∷ 0 ∷ (c * 16 + d) ∷ 0 ∷ (e * 16 + f) ∷ 0 ∷ (g * 16 + h) ∷ [])
 unfolding numberOf
 by-two a b c d e f g h x (ha, (hb, (hc, (hd, (he, (hf, (hg, (hh, _)))))))) is =
-    let l : List ℕ = a ∷ (a * 16 + b) ∷ (b * 16 + c) ∷ (c * 16 + d) ∷ (d * 16 + e) ∷ (e * 16 + f) ∷ (f * 16 + g) ∷ (g * 16 + h) ∷ [] in
-    let o : Octets l = (omega arith, (omega arith, (omega arith, (omega arith, (omega arith, (omega arith, (omega arith, (omega arith, tt)))))))) in
-    number-kept (false ∷ true ∷ false ∷ true ∷ false ∷ true ∷ false ∷ true ∷ []) l (x + x / 16) (omega arith) o refl
+    number-kept ((false, a) ∷ (true, a * 16 + b) ∷ (false, b * 16 + c) ∷ (true, c * 16 + d) ∷ (false, d * 16 + e) ∷ (true, e * 16 + f) ∷ (false, f * 16 + g) ∷ (true, g * 16 + h) ∷ []) (x + x / 16) (omega arith)
+    (omega arith, (omega arith, (omega arith, (omega arith, (omega arith, (omega arith, (omega arith, (omega arith, tt))))))))
 
 -- then four, and then all of them to one number
 module _ (p q r t : ℕ) (o : Octets (p ∷ q ∷ r ∷ t ∷ [])) where
   by-four : (y : ℕ) → y ≡ numberOf (0 ∷ p ∷ 0 ∷ q ∷ 0 ∷ r ∷ 0 ∷ t ∷ []) → bitAnd (y + y / 256) 0x0000FFFF0000FFFF ≡ numberOf (0 ∷ 0 ∷ p ∷ q ∷ 0 ∷ 0 ∷ r ∷ t ∷ [])
   unfolding numberOf
   by-four y is =
-      let l : List ℕ = 0 ∷ p ∷ p ∷ q ∷ q ∷ r ∷ r ∷ t ∷ [] in
-      let w : Octets l = (omega arith, (o .0, (o .0, (o .1 .0, (o .1 .0, (o .1 .1 .0, (o .1 .1 .0, (o .1 .1 .1 .0, tt)))))))) in
-      number-kept (false ∷ false ∷ true ∷ true ∷ false ∷ false ∷ true ∷ true ∷ []) l (y + y / 256) (omega (arith, o .1 .1 .1 .0)) w refl
+      number-kept ((false, 0) ∷ (false, p) ∷ (true, p) ∷ (true, q) ∷ (false, q) ∷ (false, r) ∷ (true, r) ∷ (true, t) ∷ []) (y + y / 256) (omega (arith, o .1 .1 .1 .0))
+      (omega arith, (o .0, (o .0, (o .1 .0, (o .1 .0, (o .1 .1 .0, (o .1 .1 .0, (o .1 .1 .1 .0, tt))))))))
 
   by-eight : (z : ℕ) → z ≡ numberOf (0 ∷ 0 ∷ p ∷ q ∷ 0 ∷ 0 ∷ r ∷ t ∷ []) → bitAnd (z + z / 65536) 0x00000000FFFFFFFF ≡ numberOf (p ∷ q ∷ r ∷ t ∷ [])
   unfolding numberOf
   by-eight z is =
-      let l : List ℕ = 0 ∷ 0 ∷ p ∷ q ∷ p ∷ q ∷ r ∷ t ∷ [] in
-      let w : Octets l = (omega arith, (omega arith, (o .0, (o .1 .0, (o .0, (o .1 .0, (o .1 .1 .0, (o .1 .1 .1 .0, tt)))))))) in
-      number-kept (false ∷ false ∷ false ∷ false ∷ true ∷ true ∷ true ∷ true ∷ []) l (z + z / 65536) (omega (arith, o .1 .1 .0, o .1 .1 .1 .0)) w refl ∙ omega arith
-
-low-half : (x : ℕ) → x < 256 → bitAnd x 15 ≡ x % 16
-low-half x h = and-mask x 4
-
-high-half : (x : ℕ) → x < 256 → bitAnd x 240 ≡ x / 16 * 16
-high-half x h = and-high x 4 4 ∙ omega arith
-
--- the low halves alone, each in its octet
-number-lows : (a : ℕ) → a < 256 ^ 8 → bitAnd a 0x0F0F0F0F0F0F0F0F ≡ numberOf (map (λ x. x % 16) (octetsOf 8 a))
-unfolding numberOf octetsOf
-number-lows a h = ap (λ (n : ℕ). bitAnd n 0x0F0F0F0F0F0F0F0F) (sym (number-back 8 a h)) ∙ number-each 15 (λ x. x % 16) (omega arith) low-half (octetsOf 8 a) (octets-octets 8 a)
+      number-kept ((false, 0) ∷ (false, 0) ∷ (false, p) ∷ (false, q) ∷ (true, p) ∷ (true, q) ∷ (true, r) ∷ (true, t) ∷ []) (z + z / 65536) (omega (arith, o .1 .1 .0, o .1 .1 .1 .0))
+      (omega arith, (omega arith, (o .0, (o .1 .0, (o .0, (o .1 .0, (o .1 .1 .0, (o .1 .1 .1 .0, tt)))))))) ∙ omega arith
 
 -- each sum on the way has 64 bits
-pub half-fits : (d n mask : ℕ) → mask < 2 ^ 63 → Fits w64 (bitAnd n mask + bitAnd n mask / d)
-half-fits d n mask h = record { fits = add-lt-pow 63 (lt-of-le-of-lt (and-le-r n mask) h) (lt-of-le-of-lt (div-le-self (bitAnd n mask) d) (lt-of-le-of-lt (and-le-r n mask) h)) }
+pub sum-fits : (d n : ℕ) → n < 2 ^ 63 → Fits w64 (n + n / d)
+sum-fits d n h = record { fits = add-lt-pow 63 h (lt-of-le-of-lt (div-le-self n d) h) }
 
-pub low-halves : (a : ℕ) → a < 256 ^ 8 → (x y z : ℕ) → x ≡ bitAnd a 0x0F0F0F0F0F0F0F0F → y ≡ bitAnd (x + x / 16) 0x00FF00FF00FF00FF → z ≡ bitAnd (y + y / 256) 0x0000FFFF0000FFFF → bitAnd (z + z / 65536) 0x00000000FFFFFFFF ≡ numberOf (pack (heldOf 8 (octetsOf 8 a)))
-unfolding octetsOf heldOf pack
-low-halves a h x y z ex ey ez =
-    let o : Octets (pack (heldOf 8 (octetsOf 8 a))) = (omega arith, (omega arith, (omega arith, (omega arith, tt)))) in
-    by-eight _ _ _ _ o z (ez ∙ by-four _ _ _ _ o y (ey ∙ by-two _ _ _ _ _ _ _ _ x (omega arith, (omega arith, (omega arith, (omega arith, (omega arith, (omega arith, (omega arith, (omega arith, tt)))))))) (ex ∙ number-lows a h)))
+-- numbers below 10 are halves
+below-halves : (l : List ℕ) → T (belowTen l) → Halves l
+below-halves [] t = tt
+below-halves (x ∷ l) t =
+    let p = parts (leb x 9) (belowTen l) t in
+    let k : x ≤ 9 = leb-true x 9 (is-true _ (p .0)) in
+    (omega arith, below-halves l (p .1))
 
--- ---- Eight octets are digits
+-- So eight octets below 10 are put two to an octet.
+module _ (x : ℕ) (h : x < 256 ^ 8) (below : belowTen (octetsOf 8 x) ≡ true) where
+  pub below-fits : x < 2 ^ 63
+  unfolding octetsOf
+  below-fits = let k : Halves (octetsOf 8 x) = below-halves (octetsOf 8 x) (passes _ below) in omega (arith, k .0)
 
--- numbers of as many octets are compared octet by octet
-number-same : (l m : List ℕ) → Octets l → Octets m → length l ≡ length m → eqb (numberOf l) (numberOf m) ≡ same l m
-number-same l m o q e =
-    same-test (eqb (numberOf l) (numberOf m)) (same l m)
-    (λ t. rw (number-one l m o q e (eqb→eq _ _ t)) (same-itself m))
-    (λ t. rw (same-one l m t) (eqb-refl (numberOf m)))
-
--- a digit, by its halves
-digit-test : (x : ℕ) → eqb (x / 16 * 16) 48 && eqb ((x % 16 + 6) / 16 * 16) 0 ≡ isDigit x
-digit-test x =
-    same-test (eqb (x / 16 * 16) 48 && eqb ((x % 16 + 6) / 16 * 16) 0) (isDigit x)
-    (λ t.
-    let p = parts (eqb (x / 16 * 16) 48) (eqb ((x % 16 + 6) / 16 * 16) 0) t in
-    let high : x / 16 * 16 ≡ 48 = eqb→eq _ _ (p .0) in
-    let low : (x % 16 + 6) / 16 * 16 ≡ 0 = eqb→eq _ _ (p .1) in
-    both (leb 48 x) (leb x 57) (passes _ (le-leb 48 x (omega arith))) (passes _ (le-leb x 57 (omega arith))))
-    (λ t.
-    let p = parts (leb 48 x) (leb x 57) t in
-    let from : 48 ≤ x = leb-true 48 x (is-true _ (p .0)) in
-    let to : x ≤ 57 = leb-true x 57 (is-true _ (p .1)) in
-    both (eqb (x / 16 * 16) 48) (eqb ((x % 16 + 6) / 16 * 16) 0) (passes _ (eq-eqb (x / 16 * 16) 48 (omega arith))) (passes _ (eq-eqb ((x % 16 + 6) / 16 * 16) 0 (omega arith))))
-
--- the two tests of all octets are that of each
-digits-test : (l : List ℕ) → same (map (λ x. x / 16 * 16) l) (map (λ x. 48) l) && same (map (λ y. y / 16 * 16) (map (λ x. x % 16 + 6) l)) (map (λ x. 0) l) ≡ all isDigit l
-digits-test [] = refl
-digits-test (x ∷ l) =
-    four (eqb (x / 16 * 16) 48) (same (map (λ x. x / 16 * 16) l) (map (λ x. 48) l)) (eqb ((x % 16 + 6) / 16 * 16) 0) (same (map (λ y. y / 16 * 16) (map (λ x. x % 16 + 6) l)) (map (λ x. 0) l))
-    ∙ ap₂ _&&_ (digit-test x) (digits-test l)
-  where
-    four : (a b c d : Bool) → (a && b) && (c && d) ≡ (a && c) && (b && d)
-    four true true c d = refl
-    four true false true d = refl
-    four true false false d = refl
-    four false b c d = refl
-
--- six more in each octet
-number-six : (a b c d e f g h : ℕ) → numberOf (a ∷ b ∷ c ∷ d ∷ e ∷ f ∷ g ∷ h ∷ []) + 0x0606060606060606 ≡ numberOf ((a + 6) ∷ (b + 6) ∷ (c + 6) ∷ (d + 6) ∷ (e + 6) ∷ (f + 6) ∷ (g + 6) ∷ (h + 6) ∷ [])
-unfolding numberOf
-number-six a b c d e f g h = omega arith
-
-pub eight-digits : (a : ℕ) → a < 256 ^ 8 → eqb (bitAnd a 0xF0F0F0F0F0F0F0F0) 0x3030303030303030 && eqb (bitAnd (bitAnd a 0x0F0F0F0F0F0F0F0F + 0x0606060606060606) 0xF0F0F0F0F0F0F0F0) 0 ≡ all isDigit (octetsOf 8 a)
-unfolding numberOf octetsOf
-eight-digits a h =
-    let l : List ℕ = octetsOf 8 a in
-    let o : Octets l = octets-octets 8 a in
-    let m : List ℕ = map (λ x. x % 16 + 6) l in
-    let q : Octets m = map-octets (λ x. x % 16 + 6) (λ x k. omega arith) l o in
-    let high : bitAnd a 0xF0F0F0F0F0F0F0F0 ≡ numberOf (map (λ x. x / 16 * 16) l) =
-    ap (λ (n : ℕ). bitAnd n 0xF0F0F0F0F0F0F0F0) (sym (number-back 8 a h)) ∙ number-each 240 (λ x. x / 16 * 16) (omega arith) high-half l o in
-    let more : bitAnd a 0x0F0F0F0F0F0F0F0F + 0x0606060606060606 ≡ numberOf m =
-    ap (λ (n : ℕ). n + 0x0606060606060606) (number-lows a h) ∙ number-six _ _ _ _ _ _ _ _ in
-    let low : bitAnd (bitAnd a 0x0F0F0F0F0F0F0F0F + 0x0606060606060606) 0xF0F0F0F0F0F0F0F0 ≡ numberOf (map (λ x. x / 16 * 16) m) =
-    ap (λ (n : ℕ). bitAnd n 0xF0F0F0F0F0F0F0F0) more ∙ number-each 240 (λ x. x / 16 * 16) (omega arith) high-half m q in
-    ap₂ _&&_
-    (ap (λ (n : ℕ). eqb n 0x3030303030303030) high ∙ number-same (map (λ x. x / 16 * 16) l) (map (λ x. 48) l) (map-octets (λ x. x / 16 * 16) (λ x k. omega arith) l o) (map-octets (λ x. 48) (λ x k. omega arith) l o) refl)
-    (ap (λ (n : ℕ). eqb n 0) low ∙ number-same (map (λ x. x / 16 * 16) m) (map (λ x. 0) l) (map-octets (λ x. x / 16 * 16) (λ x k. omega arith) m q) (map-octets (λ x. 0) (λ x k. omega arith) l o) refl)
-    ∙ digits-test l
+  pub in-four : (y z : ℕ) → y ≡ bitAnd (x + x / 16) 0x00FF00FF00FF00FF → z ≡ bitAnd (y + y / 256) 0x0000FFFF0000FFFF → bitAnd (z + z / 65536) 0x00000000FFFFFFFF ≡ numberOf (pack (octetsOf 8 x))
+  unfolding octetsOf pack
+  in-four y z ey ez =
+      let k : Halves (octetsOf 8 x) = below-halves (octetsOf 8 x) (passes _ below) in
+      let o : Octets (pack (octetsOf 8 x)) = pack-octets (octetsOf 8 x) k in
+      by-eight _ _ _ _ o z (ez ∙ by-four _ _ _ _ o y (ey ∙ by-two _ _ _ _ _ _ _ _ x k (sym (number-back 8 x h))))
 
 -- ---- Numbers in a base
 

@@ -7,7 +7,8 @@ use Prim.Native.Nat.{ℕ, zero, suc, _+_, _*_, _-_, _/_, _%_, _^_, _<_, _≤_}
 use native.Mathlib.Nat.{pow-le-pow-right}
 use native.Mathlib.Omega.{arith}
 use borrow.Author.Tests.{leb-true, leb-false, le-leb, lt-leb}
-use lib.Dec.{T, leb}
+use lib.Bits.{bitOr, bitXor, and-high, xor-add-and}
+use lib.Dec.{T, eqb, leb}
 use lib.ListN.{length, take, drop, getD, length-append, length-drop, drop-of-length-le}
 use lib.Seq.{drop-cons}
 use Rattle.meaning.specs.Octets.{Octets, all, numberOf, octetsOf, pack, packedLength, unpack, isDigit, digitValue, values}
@@ -18,12 +19,12 @@ use Rattle.meaning.proofs.Packing.{Halves, pack-length, pack-octets, unpack-pac
 use Rattle.meaning.proofs.Tests.{both, parts, passes, is-true}
 use Rattle.octets.specs.declared.Digits.{Digits}
 use Rattle.octets.specs.Parts.{partOf}
-use Rattle.octets.specs.DigitStrings.{padded, digitsOf, gatheredOf, gotOf, heldOf}
+use Rattle.octets.specs.DigitStrings.{padded, digitsOf, gatheredOf, gotOf, turnedOf, belowTen}
 use Rattle.octets.proofs.Parts.{part-within, part-rest, part-octets}
-use Rattle.octets.proofs.EachOne.{one-fails, all-append, all-covered}
+use Rattle.octets.proofs.EachOne.{same-test, one-fails, all-append, all-covered}
 use Rattle.octets.proofs.Halves.{padded-length, padded-halves, padded-more}
 use Rattle.octets.proofs.DigitStrings.{got-long, got-other, got-whole}
-use Rattle.octets.proofs.Eights.{valueIn, number-in, value-append, value-packed, value-filled, long-filled, short-filled}
+use Rattle.octets.proofs.Eights.{or-none, valueIn, number-in, value-append, value-packed, value-filled, long-filled, short-filled}
 
 -- ---- What a text gives
 
@@ -52,17 +53,12 @@ put-before l m o h e =
     let front : numberOf (pack (padded 15 15 l)) / 256 ≡ numberOf (pack (padded 13 15 l)) = omega (arith, last) in
     rw (e, seven, front)
 
+digit-bounds : (x : ℕ) → T (isDigit x) → (48 ≤ x) × (x ≤ 57)
+digit-bounds x t = let p = parts (leb 48 x) (leb x 57) t in (leb-true 48 x (is-true _ (p .0)), leb-true x 57 (is-true _ (p .1)))
+
 -- a decimal digit's low half is what it stands for
-digit-half : (x : ℕ) → isDigit x ≡ true → x % 16 ≡ digitValue x
-digit-half x e = go (leb 48 x) (leb x 57) refl refl e
-  where
-    go : (a b : Bool) → leb 48 x ≡ a → leb x 57 ≡ b → a && b ≡ true → x % 16 ≡ digitValue x
-    go true true p q t =
-        let low : 48 ≤ x = leb-true 48 x p in
-        let high : x ≤ 57 = leb-true x 57 q in
-        rw q (omega arith)
-    go true false p q t = absurd (passes false t)
-    go false b p q t = absurd (passes false t)
+digit-half : (x : ℕ) → T (isDigit x) → x % 16 ≡ digitValue x
+digit-half x t = let b = digit-bounds x t in rw (le-leb x 57 (b .1)) (omega arith)
 
 -- from i on the text is digits, an even count of octets stands before it, and p is the number of those digits' eight octets
 pub record Gathered (text : List ℕ) (i p : ℕ) : Type 0 where
@@ -85,7 +81,7 @@ gathered-odd text h e o r oe re =
     let x : ℕ = getD text i 0 in
     let none : drop (suc i) text ≡ [] = drop-of-length-le text {i = suc i} (omega arith) in
     let one : drop i text ≡ x ∷ [] = drop-cons text i 0 (omega arith) ∙ ap (λ (l : List ℕ). x ∷ l) none in
-    let octet : o ≡ digitValue x * 16 + 15 = oe ∙ ap (λ (y : ℕ). y * 16 + 15) (digit-half x e) in
+    let octet : o ≡ digitValue x * 16 + 15 = oe ∙ ap (λ (y : ℕ). y * 16 + 15) (digit-half x (passes _ e)) in
     record {
       even = omega arith;
       within = omega arith;
@@ -104,7 +100,7 @@ module _ (text : List ℕ) (i p : ℕ) (u : Gathered text i p) where
       let third : suc (i - 1) ≡ i = omega arith in
       let two : drop (i - 2) text ≡ x ∷ y ∷ l = drop-cons text (i - 2) 0 (omega (arith, u .within)) ∙ ap (λ (m : List ℕ). x ∷ m) (rw second (drop-cons text (i - 1) 0 (omega (arith, u .within)) ∙ rw third)) in
       let t = parts (isDigit x) (isDigit y) (passes _ e) in
-      let octet : o ≡ digitValue x * 16 + digitValue y = oe ∙ ap₂ (λ (a b : ℕ). a * 16 + b) (digit-half x (is-true _ (t .0))) (digit-half y (is-true _ (t .1))) in
+      let octet : o ≡ digitValue x * 16 + digitValue y = oe ∙ ap₂ (λ (a b : ℕ). a * 16 + b) (digit-half x (t .0)) (digit-half y (t .1)) in
       let size : length (values l) ≤ 13 = omega (arith, values-length l, length-drop i text, u .even) in
       record {
         even = omega (arith, u .even);
@@ -130,13 +126,32 @@ module _ (text : List ℕ) (i p : ℕ) (u : Gathered text i p) where
 
 -- ---- Eight at a time
 
--- what digits hold is what they stand for
-digits-held : (l : List ℕ) → T (all isDigit l) → heldOf (length l) l ≡ values l
-unfolding heldOf values
-digits-held [] t = refl
-digits-held (x ∷ l) t =
+-- an octet with two bits turned, as a sum
+turned-is : (x : ℕ) → bitXor x 48 + x / 16 % 4 * 32 ≡ x + 48
+turned-is x = omega (arith, xor-add-and x 48, and-high x 2 4)
+
+-- it is below 10 where the octet is a digit
+turned-test : (x : ℕ) → leb (bitXor x 48) 9 ≡ isDigit x
+turned-test x =
+    same-test (leb (bitXor x 48) 9) (isDigit x)
+    (λ t.
+    let k : bitXor x 48 ≤ 9 = leb-true _ 9 (is-true _ t) in
+    both (leb 48 x) (leb x 57) (passes _ (le-leb 48 x (omega (arith, turned-is x)))) (passes _ (le-leb x 57 (omega (arith, turned-is x)))))
+    (λ t. passes _ (le-leb (bitXor x 48) 9 (omega (arith, digit-bounds x t, turned-is x))))
+
+digits-turned : (l : List ℕ) → belowTen (turnedOf l) ≡ all isDigit l
+unfolding turnedOf
+digits-turned [] = refl
+digits-turned (x ∷ l) = ap₂ _&&_ (turned-test x) (digits-turned l)
+
+-- and then it is what the digit stands for
+values-turned : (l : List ℕ) → T (all isDigit l) → turnedOf l ≡ values l
+unfolding turnedOf values
+values-turned [] t = refl
+values-turned (x ∷ l) t =
     let p = parts (isDigit x) (all isDigit l) t in
-    ap₂ (λ (y : ℕ) (m : List ℕ). y ∷ m) (digit-half x (is-true _ (p .0))) (digits-held l (p .1))
+    let low : bitXor x 48 ≡ x % 16 = omega (arith, digit-bounds x (p .0), turned-is x) in
+    ap₂ (λ (y : ℕ) (m : List ℕ). y ∷ m) (low ∙ digit-half x (p .0)) (values-turned l (p .1))
 
 values-take : (k : ℕ) (l : List ℕ) → values (take k l) ≡ take k (values l)
 unfolding values
@@ -150,22 +165,19 @@ values-drop zero l = refl
 values-drop (suc k) [] = refl
 values-drop (suc k) (x ∷ l) = values-drop k l
 
--- the low halves of eight octets that are digits
-low-value : (l : List ℕ) (n a : ℕ) → length l ≡ 8 → T (all isDigit l) → octetsOf 8 n ≡ l → a ≡ numberOf (pack (heldOf 8 (octetsOf 8 n))) → a ≡ valueIn 16 (values l)
-low-value l n a e t o h =
-    h ∙ ap (λ (m : List ℕ). numberOf (pack (heldOf 8 m))) o
-    ∙ ap (λ (m : List ℕ). numberOf (pack m)) (rw e at (digits-held l t))
-    ∙ value-packed (values l) (omega (arith, values-length l))
+-- eight digits, two to an octet
+eight-value : (l : List ℕ) (d x : ℕ) → length l ≡ 8 → T (all isDigit l) → octetsOf 8 d ≡ turnedOf l → x ≡ numberOf (pack (octetsOf 8 d)) → x ≡ valueIn 16 (values l)
+eight-value l d x e t o h = h ∙ ap (λ (m : List ℕ). numberOf (pack m)) (o ∙ values-turned l t) ∙ value-packed (values l) (omega (arith, values-length l))
 
 module _ (text : List ℕ) where
   whole-halves : all isDigit text ≡ true → Halves (values text)
   whole-halves e = values-halves text (digits-hexes text (passes _ e))
 
   -- the first and the last of a text cover it
-  ends-test : (n : ℕ) (k l : List ℕ) → n ≤ length text → length text ≤ n + n → k ≡ partOf text 0 n → l ≡ partOf text (length text - n) n → all isDigit k && all isDigit l ≡ all isDigit text
+  ends-test : (n : ℕ) → n ≤ length text → length text ≤ n + n → all isDigit (partOf text 0 n) && all isDigit (partOf text (length text - n) n) ≡ all isDigit text
   unfolding partOf
-  ends-test n k l some few ek el =
-      ap₂ (λ (x y : List ℕ). all isDigit x && all isDigit y) ek (el ∙ part-rest text (length text - n) n (omega arith))
+  ends-test n some few =
+      ap (λ (l : List ℕ). all isDigit (take n text) && all isDigit l) (part-rest text (length text - n) n (omega arith))
       ∙ all-covered isDigit text (length text - n) n (omega arith)
 
   first-value : (n : ℕ) → valueIn 16 (values (partOf text 0 n)) ≡ valueIn 16 (take n (values text))
@@ -178,48 +190,53 @@ module _ (text : List ℕ) where
       ∙ ap (valueIn 16) (values-drop (length text - n) text ∙ ap (λ (m : ℕ). drop (m - n) (values text)) (sym (values-length text)))
 
   -- 8 to 15 digits
-  module _ (a b : ℕ) (some : 8 ≤ length text) (few : length text ≤ 15) (ea : octetsOf 8 a ≡ partOf text 0 8) (eb : octetsOf 8 b ≡ partOf text (length text - 8) 8) where
-    pub long-test : all isDigit (octetsOf 8 a) && all isDigit (octetsOf 8 b) ≡ all isDigit text
-    long-test = ends-test 8 (octetsOf 8 a) (octetsOf 8 b) some (omega arith) ea eb
+  module _ (a b : ℕ) (some : 8 ≤ length text) (few : length text ≤ 15) (ea : octetsOf 8 a ≡ turnedOf (partOf text 0 8)) (eb : octetsOf 8 b ≡ turnedOf (partOf text (length text - 8) 8)) where
+    pub long-test : (p q : ℕ) → eqb p 0 ≡ belowTen (octetsOf 8 a) → eqb q 0 ≡ belowTen (octetsOf 8 b) → eqb (bitOr p q) 0 ≡ all isDigit text
+    long-test p q ep eq =
+        or-none p q ∙ ap₂ _&&_ (ep ∙ ap belowTen ea ∙ digits-turned (partOf text 0 8)) (eq ∙ ap belowTen eb ∙ digits-turned (partOf text (length text - 8) 8)) ∙ ends-test 8 some (omega arith)
 
-    pub long-gathered : all isDigit text ≡ true → (x y : ℕ) → x ≡ numberOf (pack (heldOf 8 (octetsOf 8 a))) → y ≡ numberOf (pack (heldOf 8 (octetsOf 8 b)))
+    pub long-gathered : all isDigit text ≡ true → (x y : ℕ) → x ≡ numberOf (pack (octetsOf 8 a)) → y ≡ numberOf (pack (octetsOf 8 b))
         → x * 4294967296 % 18446744073709551616 + (y * 2 ^ (4 * (16 - length text)) % 18446744073709551616 % 4294967296 + (1 * 2 ^ (4 * (16 - length text)) % 18446744073709551616 - 1)) ≡ gatheredOf text
     long-gathered e x y ex ey =
-        let t = parts (all isDigit (octetsOf 8 a)) (all isDigit (octetsOf 8 b)) (passes _ (long-test ∙ e)) in
+        let t = parts (all isDigit (partOf text 0 8)) (all isDigit (partOf text (length text - 8) 8)) (passes _ (ends-test 8 some (omega arith) ∙ e)) in
         let n = values-length text in
-        let first : x ≡ valueIn 16 (take 8 (values text)) = low-value (partOf text 0 8) a x (part-within text 0 8 (omega arith)) (rw ea at (t .0)) ea ex ∙ first-value 8 in
-        let last : y ≡ valueIn 16 (drop (length (values text) - 8) (values text)) = low-value (partOf text (length text - 8) 8) b y (part-within text (length text - 8) 8 (omega arith)) (rw eb at (t .1)) eb ey ∙ last-value 8 some in
+        let first : x ≡ valueIn 16 (take 8 (values text)) = eight-value (partOf text 0 8) a x (part-within text 0 8 (omega arith)) (t .0) ea ex ∙ first-value 8 in
+        let last : y ≡ valueIn 16 (drop (length (values text) - 8) (values text)) = eight-value (partOf text (length text - 8) 8) b y (part-within text (length text - 8) 8 (omega arith)) (t .1) eb ey ∙ last-value 8 some in
         long-filled (values text) (whole-halves e) x y (16 - length text) (omega arith) (omega arith) (omega arith) first last
         ∙ sym (gathered-digits text few e)
 
   -- 4 to 7 digits
-  module _ (a b n : ℕ) (o : Octets text) (some : 4 ≤ length text) (few : length text ≤ 7) (ea : a ≡ numberOf (partOf text 0 4)) (eb : b ≡ numberOf (partOf text (length text - 4) 4)) (en : n ≡ a * 4294967296 + b) where
-    eight-octets : octetsOf 8 n ≡ partOf text 0 4 ++ partOf text (length text - 4) 4
-    eight-octets =
+  module _ (a b d : ℕ) (o : Octets text) (some : 4 ≤ length text) (few : length text ≤ 7) (ea : a ≡ numberOf (partOf text 0 4)) (eb : b ≡ numberOf (partOf text (length text - 4) 4)) (ed : octetsOf 8 d ≡ turnedOf (octetsOf 8 (a * 4294967296 + b))) where
+    last-four : length (partOf text (length text - 4) 4) ≡ 4
+    last-four = part-within text (length text - 4) 4 (omega arith)
+
+    both-fours : length (partOf text 0 4 ++ partOf text (length text - 4) 4) ≡ 8
+    both-fours = length-append (partOf text 0 4) (partOf text (length text - 4) 4) ∙ ap₂ (λ (x y : ℕ). x + y) (part-within text 0 4 (omega arith)) last-four
+
+    fours-turned : octetsOf 8 d ≡ turnedOf (partOf text 0 4 ++ partOf text (length text - 4) 4)
+    fours-turned =
         let k : List ℕ = partOf text 0 4 in
         let l : List ℕ = partOf text (length text - 4) 4 in
-        let last : length l ≡ 4 = part-within text (length text - 4) 4 (omega arith) in
-        let size : length (k ++ l) ≡ 8 = length-append k l ∙ ap₂ (λ (x y : ℕ). x + y) (part-within text 0 4 (omega arith)) last in
-        let number : numberOf (k ++ l) ≡ n =
-        number-in (k ++ l) ∙ value-append 256 k l ∙ ap (λ (m : ℕ). valueIn 256 k * 256 ^ m + valueIn 256 l) last
-        ∙ ap₂ (λ (x y : ℕ). x * 4294967296 + y) (sym (ea ∙ number-in k)) (sym (eb ∙ number-in l)) ∙ sym en in
-        ap (octetsOf 8) (sym number) ∙ rw size at (octets-back (k ++ l) (octets-append k l (part-octets text 0 4 o) (part-octets text (length text - 4) 4 o)))
+        let number : numberOf (k ++ l) ≡ a * 4294967296 + b =
+        number-in (k ++ l) ∙ value-append 256 k l ∙ ap (λ (m : ℕ). valueIn 256 k * 256 ^ m + valueIn 256 l) last-four
+        ∙ ap₂ (λ (x y : ℕ). x * 4294967296 + y) (sym (ea ∙ number-in k)) (sym (eb ∙ number-in l)) in
+        ed ∙ ap (λ (n : ℕ). turnedOf (octetsOf 8 n)) (sym number)
+        ∙ ap turnedOf (rw both-fours at (octets-back (k ++ l) (octets-append k l (part-octets text 0 4 o) (part-octets text (length text - 4) 4 o))))
 
-    pub short-test : all isDigit (octetsOf 8 n) ≡ all isDigit text
-    short-test = ap (all isDigit) eight-octets ∙ all-append isDigit (partOf text 0 4) (partOf text (length text - 4) 4) ∙ ends-test 4 (partOf text 0 4) (partOf text (length text - 4) 4) some (omega arith) refl refl
+    pub short-test : belowTen (octetsOf 8 d) ≡ all isDigit text
+    short-test = ap belowTen fours-turned ∙ digits-turned (partOf text 0 4 ++ partOf text (length text - 4) 4) ∙ all-append isDigit (partOf text 0 4) (partOf text (length text - 4) 4) ∙ ends-test 4 some (omega arith)
 
-    pub short-gathered : all isDigit text ≡ true → (x : ℕ) → x ≡ numberOf (pack (heldOf 8 (octetsOf 8 n)))
+    pub short-gathered : all isDigit text ≡ true → (x : ℕ) → x ≡ numberOf (pack (octetsOf 8 d))
         → x / 65536 * 281474976710656 % 18446744073709551616 + ((x * 2 ^ (4 * (8 - length text)) % 18446744073709551616 % 65536 + (1 * 2 ^ (4 * (8 - length text)) % 18446744073709551616 - 1)) * 4294967296 % 18446744073709551616 + 4294967295) ≡ gatheredOf text
     unfolding values
     short-gathered e x ex =
         let k : List ℕ = partOf text 0 4 in
         let l : List ℕ = partOf text (length text - 4) 4 in
         let m = values-length text in
-        let last : length l ≡ 4 = part-within text (length text - 4) 4 (omega arith) in
-        let size : length (k ++ l) ≡ 8 = length-append k l ∙ ap₂ (λ (y z : ℕ). y + z) (part-within text 0 4 (omega arith)) last in
+        let digits : all isDigit (k ++ l) ≡ true = all-append isDigit k l ∙ ends-test 4 some (omega arith) ∙ e in
         let number : x ≡ valueIn 16 (values k) * 65536 + valueIn 16 (values l) =
-        low-value (k ++ l) n x size (rw eight-octets at (passes _ (short-test ∙ e))) eight-octets ex
-        ∙ ap (valueIn 16) (map-append digitValue k l) ∙ value-append 16 (values k) (values l) ∙ ap (λ (z : ℕ). valueIn 16 (values k) * 16 ^ z + valueIn 16 (values l)) (values-length l ∙ last) in
+        eight-value (k ++ l) d x both-fours (passes _ digits) fours-turned ex
+        ∙ ap (valueIn 16) (map-append digitValue k l) ∙ value-append 16 (values k) (values l) ∙ ap (λ (z : ℕ). valueIn 16 (values k) * 16 ^ z + valueIn 16 (values l)) (values-length l ∙ last-four) in
         short-filled (values text) (whole-halves e) (valueIn 16 (values k)) (valueIn 16 (values l)) x (8 - length text) (omega arith) (omega arith) (omega arith) (first-value 4) (last-value 4 some) number
         ∙ sym (gathered-digits text (omega arith) e)
 

@@ -235,6 +235,18 @@ laid-two at n s t d size fits =
     ∙ ap (λ (k : ℕ). front ++ ((s ++ t) ++ drop k (drop at d))) (sym (length-append s t))
     ∙ sym (laid-fits at (s ++ t) d (omega arith)))
 
+-- So do two parts of s, as one part.
+pub laid-parts : (at n m : ℕ) (s d k l held out : List ℕ) → n + m ≤ length s → at + (n + m) ≤ length d → k ≡ partOf s 0 n → l ≡ partOf s n m → held ≡ laidAt at k d → out ≡ laidAt (at + n) l held → Laid at (partOf s 0 (n + m)) d true out
+unfolding partOf
+laid-parts at n m s d k l held out h room ek el eh eo =
+    let size : length (take (n + m) s) ≡ n + m = length-take-le (n + m) s h in
+    record {
+      says = sym (room-fits at (take (n + m) s) d (omega arith));
+      holds =
+          eo ∙ rw (eh, ek, el) (laid-two at n (take n s) (take m (drop n s)) d (length-take-le n s (omega arith)) (simp (length-take, length-drop) (omega arith)))
+          ∙ ap (λ (r : List ℕ). laidAt at r d) (sym (take-add n m s));
+    }
+
 -- what is laid, by another name
 pub laid-as : (at : ℕ) (s t d out : List ℕ) → t ≡ s → out ≡ laidAt at s d → out ≡ laidAt at t d
 laid-as at s t d out e h = h ∙ rw e

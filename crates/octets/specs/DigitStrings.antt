@@ -3,6 +3,7 @@
 use Prim.Native.Nat.{ℕ, zero, suc, _+_, _%_, min}
 use mathlib.Core.Bool.{Bool, cond, _&&_}
 use mathlib.Core.List.{List, [], _∷_, map}
+use lib.Bits.{bitXor}
 use lib.Dec.{eqb, leb}
 use lib.ListN.{length, take, replicate}
 use Rattle.meaning.specs.Octets.{between, all, same, numberOf, isDigit, digitValue, values, text, pack, unpack, packedLength}
@@ -29,6 +30,14 @@ gotOf l = cond (between 1 15 (length l) && all isDigit l) (digitsOf (values l)) 
 -- stand for; 0 of any other text
 unfoldable pub gatheredOf : List ℕ → ℕ
 gatheredOf l = cond (leb (length l) 15 && all isDigit l) (numberOf (pack (padded 15 15 (values l)))) 0
+
+-- octets, each with the two bits turned that tell a decimal digit's text from its value
+unfoldable pub turnedOf : List ℕ → List ℕ
+turnedOf = map (λ x. bitXor x 48)
+
+-- each is below 10
+abbrev pub belowTen : List ℕ → Bool
+belowTen = all (λ x. leb x 9)
 
 -- the first n digits that octets hold, each taken modulo 16; zeros where they hold fewer
 unfoldable pub heldOf : (n : ℕ) → List ℕ → List ℕ

@@ -2,13 +2,14 @@
 // buffer, digit strings, and digits two to an octet. Each public function takes any arguments.
 ghost use mathlib.Core.Path.{_≡_};
 ghost use Prim.Native.Nat.{_+_, _*_, _/_, _%_, _^_, _<_, _≤_, min};
+ghost use mathlib.Core.Bool.{true};
 ghost use mathlib.Core.List.{[]};
-ghost use lib.Dec.{leb};
+ghost use lib.Dec.{eqb, leb};
 ghost use lib.ListN.{length, getD};
 ghost use Rattle.meaning.specs.Octets.{all, numberOf, octetsOf, pack, unpack, packedLength, isDigit, isHex, digitValue, digitText, text};
 ghost use Rattle.meaning.specs.Answers.{over};
 ghost use Rattle.octets.specs.Parts.{partOf, Numbered, Written, laidAt, Laid};
-ghost use Rattle.octets.specs.DigitStrings.{halves, digitsOf, gatheredOf, gotOf, heldOf, eightOf};
+ghost use Rattle.octets.specs.DigitStrings.{halves, digitsOf, gatheredOf, gotOf, eightOf, turnedOf, belowTen};
 
 // "at most fifteen digits together with their count": the digits' values, with 15s behind them.
 pub struct Digits {
@@ -78,6 +79,23 @@ fn four_at(s: &[u8], at: usize) -> [u8; 4]
     ensures { λ r. ⌜ r ≡ partOf (now (s .entry)) at 4 ⌝ }
 {
     [s[at], s[at + 1], s[at + 2], s[at + 3]]
+}
+
+// The eight octets at a place.
+fn eight_of(s: &[u8], at: usize) -> [u8; 8]
+    requires { ⌜ at + 8 ≤ length (now s) ⌝ }
+    ensures { λ r. ⌜ r ≡ partOf (now (s .entry)) at 8 ⌝ }
+{
+    [
+        s[at],
+        s[at + 1],
+        s[at + 2],
+        s[at + 3],
+        s[at + 4],
+        s[at + 5],
+        s[at + 6],
+        s[at + 7],
+    ]
 }
 
 // The 32-bit number at a place.
@@ -229,10 +247,17 @@ pub fn copy_at(buf: &mut [u8], at: usize, src: &[u8]) -> bool
 }
 
 // Copies the first sixteen octets of `src`, or as many as it has, over `buf` from the place `at` on and says true, if they fit; else
-// changes nothing and says false.
+// changes nothing and says false. Sixteen go at once.
 pub fn copy_sixteen(buf: &mut [u8], at: usize, src: &[u8]) -> bool
     ensures { λ r. ⌜ Laid at (partOf (now (src .entry)) 0 16) (now (buf .entry)) r (now (buf .exit)) ⌝ }
 {
+    if (16 <= src.len()) & fits(buf.len(), at, 16) {
+        let first = eight_of(src, 0);
+        let second = eight_of(src, 8);
+        lay_at(buf, at, &first);
+        lay_at(buf, at + 8, &second);
+        return true;
+    }
     copy_at(buf, at, part(src, 0, 16))
 }
 
@@ -406,32 +431,30 @@ fn eight_at(s: &[u8], at: usize) -> u64
     requires { ⌜ at + 8 ≤ length (now s) ⌝ }
     ensures { λ r. ⌜ octetsOf 8 r ≡ partOf (now (s .entry)) at 8 ⌝ }
 {
-    let eight = [
-        s[at],
-        s[at + 1],
-        s[at + 2],
-        s[at + 3],
-        s[at + 4],
-        s[at + 5],
-        s[at + 6],
-        s[at + 7],
-    ];
+    let eight = eight_of(s, at);
     number(&eight)
 }
 
-// Whether the eight octets of a number are decimal digits: their high halves are 3, and their low halves with 6 more stay halves.
-fn eight_digits(a: u64) -> bool
-    ensures { λ r. ⌜ r ≡ all isDigit (octetsOf 8 a) ⌝ }
+// Eight octets, each with the two bits turned that tell a decimal digit's text from its value.
+fn turned(a: u64) -> u64
+    ensures { λ r. ⌜ octetsOf 8 r ≡ turnedOf (octetsOf 8 a) ⌝ }
 {
-    ((a & 0xF0F0F0F0F0F0F0F0) == 0x3030303030303030)
-        & ((((a & 0x0F0F0F0F0F0F0F0F) + 0x0606060606060606) & 0xF0F0F0F0F0F0F0F0) == 0)
+    a ^ 0x3030303030303030
 }
 
-// The low halves of the eight octets of a number, two to an octet: a number of four octets.
-fn low_halves(a: u64) -> u64
-    ensures { λ r. ⌜ r ≡ numberOf (pack (heldOf 8 (octetsOf 8 a))) ⌝ }
+// 0 where each of eight octets is at most 9: it has no high half, nor has it one with 6 more.
+fn beyond(d: u64) -> u64
+    ensures { λ r. ⌜ eqb r 0 ≡ belowTen (octetsOf 8 d) ⌝ }
 {
-    let x = a & 0x0F0F0F0F0F0F0F0F;
+    let more = (d & 0x0F0F0F0F0F0F0F0F) + 0x0606060606060606;
+    (d & 0xF0F0F0F0F0F0F0F0) | (more & 0xF0F0F0F0F0F0F0F0)
+}
+
+// Eight octets of at most 9 each, two to an octet: a number of four octets.
+fn in_four(x: u64) -> u64
+    requires { ⌜ belowTen (octetsOf 8 x) ≡ true ⌝ }
+    ensures { λ r. ⌜ r ≡ numberOf (pack (octetsOf 8 x)) ⌝ }
+{
     let y = (x + (x >> 4)) & 0x00FF00FF00FF00FF;
     let z = (y + (y >> 8)) & 0x0000FFFF0000FFFF;
     (z + (z >> 16)) & 0x00000000FFFFFFFF
@@ -443,14 +466,14 @@ fn long_digits(text: &[u8]) -> u64
     ensures { λ r. ⌜ r ≡ gatheredOf (now (text .entry)) ⌝ }
 {
     let n = text.len();
-    let a = eight_at(text, 0);
-    let b = eight_at(text, n - 8);
-    if !(eight_digits(a) & eight_digits(b)) {
+    let a = turned(eight_at(text, 0));
+    let b = turned(eight_at(text, n - 8));
+    if (beyond(a) | beyond(b)) != 0 {
         return 0;
     }
     let s = (4 * (16 - n)) as u64;
-    let low = (low_halves(b) << s) % 4294967296;
-    (low_halves(a) << 32) + (low + ((1u64 << s) - 1))
+    let low = (in_four(b) << s) % 4294967296;
+    (in_four(a) << 32) + (low + ((1u64 << s) - 1))
 }
 
 // 4 to 7 digits: the first four and the last four, which may be some of the same.
@@ -459,11 +482,11 @@ fn short_digits(text: &[u8]) -> u64
     ensures { λ r. ⌜ r ≡ gatheredOf (now (text .entry)) ⌝ }
 {
     let n = text.len();
-    let x = (u32_at(text, 0) as u64) * 4294967296 + (u32_at(text, n - 4) as u64);
-    if !eight_digits(x) {
+    let x = turned((u32_at(text, 0) as u64) * 4294967296 + (u32_at(text, n - 4) as u64));
+    if beyond(x) != 0 {
         return 0;
     }
-    let h = low_halves(x);
+    let h = in_four(x);
     let s = (4 * (8 - n)) as u64;
     let low = ((h << s) % 65536) + ((1u64 << s) - 1);
     ((h / 65536) << 48) + ((low << 32) + 4294967295)
@@ -597,11 +620,10 @@ fn pack_text(buf: &mut [u8], text: &[u8])
     }
     let last = pairs - 8;
     let mut i: usize = 0;
-    while i < last {
-        pack_eight(buf, text, i);
+    while i < pairs {
+        pack_eight(buf, text, least(i, last));
         i += 8;
     }
-    pack_eight(buf, text, last);
     pack_rest(buf, text, pairs);
 }
 

@@ -1,21 +1,30 @@
 -- The first eight and the last eight cover the text; where they are digits, the one number holds them all. Assumes nothing.
 use borrow.Author.Needs.{needs}
-use mathlib.Core.Path.{_≡_, sym, ap₂, _∙_}
-use mathlib.Core.Bool.{true, _&&_}
+use mathlib.Core.Path.{_≡_, sym, ap, _∙_}
+use mathlib.Core.Bool.{true}
 use native.Mathlib.Omega.{arith}
-use borrow.Author.Tests.{not-true, not-false}
+use borrow.Author.Tests.{eq-eqb, ne-eqb}
+use lib.Bits.{bitOr}
+use lib.Dec.{eqb}
 use Rattle.meaning.specs.Octets.{all, isDigit}
-use Rattle.octets.proofs.Eights.{one-left}
+use Rattle.octets.specs.DigitStrings.{turnedOf}
+use Rattle.octets.proofs.Eights.{or-zero, one-left}
 use Rattle.octets.proofs.Gathering.{gathered-other, gathered-fits, long-test, long-gathered}
 use Rattle.octets.proofs.long_digits.Statement.{statement}
 use Rattle.octets.proofs.long_digits.Tie as tie
 
-digits : (c : tie.After-low-halves2) → all isDigit (c .before .before .before .before .before .before .before .before .args .text .now) ≡ true
-digits c =
-    sym (long-test (c .before .before .before .before .before .before .before .before .args .text .now) _ _ (search needs) (search needs) (c .before .before .before .before .before .before .eight-at .ensures) (c .before .before .before .before .before .eight-at2 .ensures)) ∙ ap₂ _&&_ (sym (c .before .before .before .before .eight-digits .ensures)) (sym (c .before .before .before .eight-digits2 .ensures)) ∙ not-false _ (c .before .before .if1 .left)
+test : (c : tie.After-beyond2) → eqb (bitOr (c .before .beyond .result) (c .beyond2 .result)) 0 ≡ all isDigit (c .before .before .before .before .before .before .before .args .text .now)
+test c =
+    long-test (c .before .before .before .before .before .before .before .args .text .now) _ _ (search needs) (search needs) (c .before .before .before .before .turned .ensures ∙ ap turnedOf (c .before .before .before .before .before .eight-at .ensures)) (c .before .before .turned2 .ensures ∙ ap turnedOf (c .before .before .before .eight-at2 .ensures)) (c .before .beyond .result) (c .beyond2 .result) (c .before .beyond .ensures) (c .beyond2 .ensures)
+
+digits : (c : tie.Else1) → all isDigit (c .before .before .before .before .before .before .before .before .args .text .now) ≡ true
+digits c = sym (test (c .before)) ∙ eq-eqb _ 0 (c .if1 .left)
 
 eight-at-requires : tie.Need-eight-at-requires
 eight-at-requires c κs = search needs
+
+turned-requires : tie.Need-turned-requires
+turned-requires c κs = search needs
 
 sub-eight-at : tie.Need-sub-eight-at
 sub-eight-at c = search needs
@@ -23,16 +32,17 @@ sub-eight-at c = search needs
 eight-at-requires-2 : tie.Need-eight-at-requires-2
 eight-at-requires-2 c κs = search needs
 
-eight-digits-requires : tie.Need-eight-digits-requires
-eight-digits-requires c κs = search needs
+turned-requires-2 : tie.Need-turned-requires-2
+turned-requires-2 c κs = search needs
 
-eight-digits-requires-2 : tie.Need-eight-digits-requires-2
-eight-digits-requires-2 c κs = search needs
+beyond-requires : tie.Need-beyond-requires
+beyond-requires c κs = search needs
+
+beyond-requires-2 : tie.Need-beyond-requires-2
+beyond-requires-2 c κs = search needs
 
 returns : tie.Need-returns
-returns c =
-    let text = c .before .before .before .before .before .before .args .text .now in
-    sym (gathered-other text (sym (long-test text _ _ (search needs) (search needs) (c .before .before .before .before .eight-at .ensures) (c .before .before .before .eight-at2 .ensures)) ∙ ap₂ _&&_ (sym (c .before .before .eight-digits .ensures)) (sym (c .before .eight-digits2 .ensures)) ∙ not-true _ (c .if1 .taken)))
+returns c = sym (gathered-other _ (sym (test (c .before)) ∙ ne-eqb _ 0 (c .if1 .taken)))
 
 sub-s : tie.Need-sub-s
 sub-s c = search needs
@@ -40,14 +50,14 @@ sub-s c = search needs
 mul-s : tie.Need-mul-s
 mul-s c = search needs
 
-low-halves-requires : tie.Need-low-halves-requires
-low-halves-requires c κs = search needs
+in-four-requires : tie.Need-in-four-requires
+in-four-requires c κs = sym (c .before .beyond2 .ensures) ∙ eq-eqb _ 0 (or-zero (c .before .before .beyond .result) (c .before .beyond2 .result) (c .if1 .left) .1)
 
 shl-low : tie.Need-shl-low
 shl-low c = search needs
 
-low-halves-requires-2 : tie.Need-low-halves-requires-2
-low-halves-requires-2 c κs = search needs
+in-four-requires-2 : tie.Need-in-four-requires-2
+in-four-requires-2 c κs = sym (c .before .before .before .beyond .ensures) ∙ eq-eqb _ 0 (or-zero (c .before .before .before .beyond .result) (c .before .before .beyond2 .result) (c .before .if1 .left) .0)
 
 shl-result : tie.Need-shl-result
 shl-result c = search needs
@@ -56,10 +66,10 @@ sub-result : tie.Need-sub-result
 sub-result c = one-left _ (search needs)
 
 returns-2 : tie.Need-returns-2
-returns-2 c = long-gathered (c .before .before .before .before .before .before .before .before .args .text .now) _ _ (search needs) (search needs) (c .before .before .before .before .before .before .eight-at .ensures) (c .before .before .before .before .before .eight-at2 .ensures) (digits c) _ _ (c .low-halves2 .ensures) (c .before .low-halves .ensures)
+returns-2 c = long-gathered (c .before .before .before .before .before .before .before .before .before .before .args .text .now) _ _ (search needs) (search needs) (c .before .before .before .before .before .before .before .turned .ensures ∙ ap turnedOf (c .before .before .before .before .before .before .before .before .eight-at .ensures)) (c .before .before .before .before .before .turned2 .ensures ∙ ap turnedOf (c .before .before .before .before .before .before .eight-at2 .ensures)) (digits (c .before .before)) _ _ (c .in-four2 .ensures) (c .before .in-four .ensures)
 
 add-result-2 : tie.Need-add-result-2
-add-result-2 c = record { fits = rw (returns-2 c) (gathered-fits (c .before .before .before .before .before .before .before .before .args .text .now) (search needs) (digits c)) }
+add-result-2 c = record { fits = rw (returns-2 c) (gathered-fits (c .before .before .before .before .before .before .before .before .before .before .args .text .now) (search needs) (digits (c .before .before))) }
 
 add-result : tie.Need-add-result
 add-result c = omega (arith, add-result-2 c)
@@ -69,16 +79,18 @@ long-digits-spec =
     tie.close
     (tie.spec
     eight-at-requires
+    turned-requires
     sub-eight-at
     eight-at-requires-2
-    eight-digits-requires
-    eight-digits-requires-2
+    turned-requires-2
+    beyond-requires
+    beyond-requires-2
     returns
     sub-s
     mul-s
-    low-halves-requires
+    in-four-requires
     shl-low
-    low-halves-requires-2
+    in-four-requires-2
     shl-result
     sub-result
     add-result

@@ -1,18 +1,21 @@
 -- The octets passed hold the halves before them; the last eight, some of which are passed, end the pairs, and the rest is packed
 -- behind them. Assumes nothing.
 use borrow.Author.Needs.{needs}
-use Prim.Native.Nat.{_-_, _≤_}
+use mathlib.Core.Path.{_≡_}
+use Prim.Native.Nat.{_+_, _-_, _/_, min}
+use native.Mathlib.Nat.{zero-min}
 use native.Mathlib.Omega.{arith}
+use lib.ListN.{length}
 use Rattle.meaning.specs.Octets.{pack}
 use Rattle.octets.specs.Parts.{Written}
 use Rattle.octets.specs.DigitStrings.{halves}
-use Rattle.octets.proofs.Overs.{written-none, written-begun, written-before, written-on, written-end}
+use Rattle.octets.proofs.Overs.{written-none, written-before, written-on, written-end}
 use Rattle.octets.proofs.Halves.{halves-packed}
 use Rattle.octets.proofs.pack_text.Statement.{statement}
 use Rattle.octets.proofs.pack_text.Tie as tie
 
 abbrev Inv-loop : tie.InvT-loop
-Inv-loop buf₀ text pairs last i₀ buf i = Written (pack (halves text)) buf₀ buf i × (i ≤ pairs)
+Inv-loop buf₀ text pairs last i₀ buf i = Written (pack (halves text)) buf₀ buf (min i pairs)
 
 abbrev μ-loop : tie.MeasureT-loop
 μ-loop buf₀ text pairs last i₀ buf i = pairs - i
@@ -27,10 +30,13 @@ returns : tie.Need-returns Inv-loop μ-loop
 returns c = c .before .before .pack-rest .ensures
 
 loop-holds : tie.Need-loop-holds Inv-loop μ-loop
-loop-holds c = (written-none _ _ (omega (arith, halves-packed (c .before .before .before .args .text .now))), omega arith)
+loop-holds c = rw (zero-min _) (written-none _ _ (omega (arith, halves-packed (c .before .before .before .args .text .now))))
+
+least-requires : tie.Need-least-requires Inv-loop μ-loop
+least-requires c κs = search needs
 
 pack-eight-requires : tie.Need-pack-eight-requires Inv-loop μ-loop
-pack-eight-requires c κs = (written-begun _ _ _ _ (c .before .before .loop .inv .0), omega arith)
+pack-eight-requires c κs = (written-before _ _ _ _ _ (c .before .before .before .loop .inv) (omega arith), omega arith)
 
 add-i : tie.Need-add-i Inv-loop μ-loop
 add-i c = search needs
@@ -39,22 +45,20 @@ loop-less : tie.Need-loop-less Inv-loop μ-loop
 loop-less c = search needs
 
 loop-again : tie.Need-loop-again Inv-loop μ-loop
-loop-again c = (written-on _ _ _ _ _ _ (c .before .before .before .before .before .loop .inv .0) (c .before .before .pack-eight .ensures) (omega arith), omega arith)
-
-pack-eight-requires-2 : tie.Need-pack-eight-requires-2 Inv-loop μ-loop
-pack-eight-requires-2 c κs = (written-before _ _ _ _ _ (c .before .before .loop .inv .0) (omega arith), omega arith)
+loop-again c =
+    let u = c .before .before .before .before .before .before .loop in
+    let text = c .before .before .before .before .before .before .before .before .before .before .args .text .now in
+    let to : min (u .i + 8) (length text / 2) ≡ c .before .before .before .least .result + 8 = omega arith in
+    rw to (written-on _ _ _ _ _ _ (u .inv) (c .before .before .pack-eight .ensures) (omega arith))
 
 pack-rest-requires-2 : tie.Need-pack-rest-requires-2 Inv-loop μ-loop
-pack-rest-requires-2 c κs = let w = written-on _ _ _ _ _ _ (c .before .before .before .before .before .before .loop .inv .0) (c .before .before .before .pack-eight2 .ensures) (omega arith) in
-    (written-before _ _ _ _ _ w (omega arith), omega arith)
+pack-rest-requires-2 c κs = (written-before _ _ _ _ _ (c .before .before .loop .inv) (omega arith), omega arith)
 
 same-length-2 : tie.Need-same-length-2 Inv-loop μ-loop
 same-length-2 c = search needs
 
 returns-2 : tie.Need-returns-2 Inv-loop μ-loop
-returns-2 c =
-    let w = written-on _ _ _ _ _ _ (c .before .before .before .before .before .before .before .before .before .loop .inv .0) (c .before .before .before .before .before .before .pack-eight2 .ensures) (omega arith) in
-    written-end _ _ _ _ _ w (c .before .before .pack-rest2 .ensures)
+returns-2 c = written-end _ _ _ _ _ (c .before .before .before .before .before .loop .inv) (c .before .before .pack-rest2 .ensures)
 
 pub pack-text-spec : {M : Type 1} → statement M
 pack-text-spec =
@@ -66,11 +70,11 @@ pack-text-spec =
     same-length
     returns
     loop-holds
+    least-requires
     pack-eight-requires
     add-i
     loop-less
     loop-again
-    pack-eight-requires-2
     pack-rest-requires-2
     same-length-2
     returns-2)
