@@ -139,7 +139,7 @@ turned-test x =
     both (leb 48 x) (leb x 57) (passes _ (le-leb 48 x (omega (arith, turned-is x)))) (passes _ (le-leb x 57 (omega (arith, turned-is x)))))
     (λ t. passes _ (le-leb (bitXor x 48) 9 (omega (arith, digit-bounds x t, turned-is x))))
 
-digits-turned : (l : List ℕ) → belowTen (turnedOf l) ≡ all isDigit l
+pub digits-turned : (l : List ℕ) → belowTen (turnedOf l) ≡ all isDigit l
 unfolding turnedOf
 digits-turned [] = refl
 digits-turned (x ∷ l) = ap₂ _&&_ (turned-test x) (digits-turned l)

@@ -295,8 +295,8 @@ pub fn half_of(x: u8) -> u8
     digit_value(x) % 16
 }
 
-// Whether every octet of `s` is a decimal digit, two at a time from the end.
-pub fn all_digits(s: &[u8]) -> bool
+// Whether every octet of `s`, of which there are few, is a decimal digit: two at a time from the end.
+fn few_are_digits(s: &[u8]) -> bool
     ensures { λ r. ⌜ r ≡ all isDigit (now (s .entry)) ⌝ }
 {
     let mut i = s.len();
@@ -313,6 +313,32 @@ pub fn all_digits(s: &[u8]) -> bool
         i -= 2;
     }
     true
+}
+
+// Whether the eight octets at a place are decimal digits: tested at once.
+fn eight_digits(s: &[u8], at: usize) -> bool
+    requires { ⌜ at + 8 ≤ length (now s) ⌝ }
+    ensures { λ r. ⌜ r ≡ all isDigit (partOf (now (s .entry)) at 8) ⌝ }
+{
+    beyond(turned(eight_at(s, at))) == 0
+}
+
+// Whether every octet of `s` is a decimal digit, by eights, the last of which may hold some that are tested already.
+pub fn all_digits(s: &[u8]) -> bool
+    ensures { λ r. ⌜ r ≡ all isDigit (now (s .entry)) ⌝ }
+{
+    if s.len() < 8 {
+        return few_are_digits(s);
+    }
+    let last = s.len() - 8;
+    let mut i: usize = 0;
+    while i < last {
+        if !eight_digits(s, i) {
+            return false;
+        }
+        i += 8;
+    }
+    eight_digits(s, last)
 }
 
 // Whether the sixteen octets at a place are hexadecimal digits. All are tested, so that they can be tested at once.
