@@ -1,11 +1,12 @@
 -- The whole list: what the attributes break, and then the end; and what checking answers. Assumes nothing.
 use mathlib.Core.Path.{_≡_, refl, sym, ap, subst, _∙_}
 use mathlib.Core.Bool.{Bool}
-use mathlib.Core.List.{List, [], _∷_, _++_}
+use mathlib.Core.List.{List, [], _++_}
 use Prim.Native.Nat.{ℕ, _+_, _≤_, _<_}
 use native.Mathlib.Omega.{arith}
 use lib.Dec.{leb, leb→le}
-use lib.ListN.{length}
+use lib.ListN.{length, take, drop, length-take}
+use lib.Seq.{take-at}
 use borrow.Author.Tests.{lt-ltb, le-ltb}
 use Rattle.meaning.specs.Jobs.{isKind}
 use Rattle.meaning.specs.Framing.{walk, attributes}
@@ -14,7 +15,6 @@ use Rattle.meaning.specs.Breaches.{chosen, along, atEnd, numbersOf, breaches}
 use Rattle.meaning.specs.Answers.{over, after, listOf, checkAnswer}
 use Rattle.meaning.proofs.Tests.{parts, passes}
 use Rattle.meaning.proofs.RoundTrip.{no-refusal}
-use Rattle.octets.proofs.Overs.{over-none}
 use Rattle.area.specs.declared.Refusal.{Refusal}
 use Rattle.area.specs.declared.Arrival.the-variants.{Fit}
 use Rattle.area.specs.Answers.{inBook, arrivalOf}
@@ -27,7 +27,7 @@ use Rattle.breach.specs.Table.{Known}
 use Rattle.breach.specs.Lists.{Laid, lackingIn, wantingIn, Ready, Broke, Passed, AlongSays, Listed, PassSays}
 use Rattle.breach.specs.Answers.{Checked}
 use Rattle.breach.proofs.Rows.{row-known}
-use Rattle.breach.proofs.Laying.{laid-then, laid-kept, laid-over, chosen-append, chosen-few}
+use Rattle.breach.proofs.Laying.{laid-then, laid-over, chosen-append, chosen-few}
 use Rattle.breach.proofs.Ends.{lacking-six, end-meant}
 
 -- ---- A pass
@@ -65,17 +65,16 @@ module _ (kind flags : ℕ) (area d : List ℕ) (r : Tally) (held : List ℕ) (s
   unfolding AlongSays PassSays
   along-broken refused q = subst (λ (t : Tally). AlongSays kind flags area d t held seen) q says
 
--- ---- Two passes
+-- ---- The answer
 
 -- The first that applies is a refusal, which leaves the buffer as it was.
 pub refused-checked : (kind flags : ℕ) (area : List ℕ) (refused : Refusal) (d : List ℕ) → areaRefusal kind flags area ≡ inBook refused → Checked kind flags area d (is.Refused refused) d
 unfolding checkAnswer areaOrder after
 refused-checked kind flags area refused d e = record { says = rw e; holds = rw e }
 
--- a buffer with no room
-no-room : (p : List ℕ) → length p ≡ 0 → p ≡ []
-no-room [] h = refl
-no-room (x ∷ p) h = absurd (omega arith)
+-- as many entries as are needed have room
+pub few-fit : (needed : ℕ) (p d : List ℕ) → needed ≤ length d → length (take needed p) ≤ length d
+few-fit needed p d h = omega (arith, length-take needed p)
 
 -- Nothing of 1 to 3 applies.
 module _ (kind flags : ℕ) (area : List ℕ) (fit : arrivalOf kind flags (length area) ≡ Fit) where
@@ -89,58 +88,55 @@ module _ (kind flags : ℕ) (area : List ℕ) (fit : arrivalOf kind flags (lengt
       let known : Known kind = record { least = leb→le 1 kind (t .0); most = leb→le kind 6 (t .1) } in
       record { short = arrived .short; known = known; row = row-known kind codes known e }
 
-  -- The first pass has no room at all, so it changes nothing.
-  module _ (d p : List ℕ) (r : Tally) (first : PassSays kind flags area [] r p) where
+  -- The first pass lays into a buffer e of its own, which is p then.
+  module _ (d e p : List ℕ) (r : Tally) (first : PassSays kind flags area e r p) where
     -- the first of 4 to 8
-    pub framing-refused : (refused : Refusal) → r ≡ Broken refused → Checked kind flags area d (is.Refused refused) (p ++ d)
+    pub framing-refused : (refused : Refusal) → r ≡ Broken refused → Checked kind flags area d (is.Refused refused) d
     unfolding PassSays
     framing-refused refused q =
-        let b : Broke area [] refused p = subst (λ (t : Tally). PassSays kind flags area [] t p) q first in
-        rw (no-room p (b .kept)) (refused-checked kind flags area refused d (arrived .left ∙ b .first))
+        let b : Broke area e refused p = subst (λ (t : Tally). PassSays kind flags area e t p) q first in
+        refused-checked kind flags area refused d (arrived .left ∙ b .first)
 
     -- so many entries are needed
     module _ (needed : ℕ) (q : r ≡ Whole needed) where
-      whole : Listed kind flags area [] needed p
+      whole : Listed kind flags area e needed p
       unfolding PassSays
-      whole = subst (λ (t : Tally). PassSays kind flags area [] t p) q first
+      whole = subst (λ (t : Tally). PassSays kind flags area e t p) q first
 
       accepted : areaRefusal kind flags area ≡ none
       accepted = arrived .left ∙ whole .sound
-
-      same : p ++ d ≡ d
-      same = ap (λ (x : List ℕ). x ++ d) (no-room p (laid-kept (listOf kind flags area) [] p 0 needed (whole .lays)))
 
       counted : needed ≡ length (listOf kind flags area)
       counted = omega (arith, whole .lays .counts)
 
       -- refusal 10
-      pub too-long : length (p ++ d) < needed → Checked kind flags area d (is.Refused (record { number = 10; second = needed })) (p ++ d)
+      pub too-long : length d < needed → Checked kind flags area d (is.Refused (record { number = 10; second = needed })) d
       unfolding checkAnswer areaOrder after
       too-long h =
-          let t = lt-ltb (length d) (length (listOf kind flags area)) (omega (arith, counted, ap length same)) in
-          record { says = rw (counted, accepted, t); holds = rw (accepted, t) same }
-
-      -- the empty list
-      pub list-empty : needed ≡ 0 → Checked kind flags area d (is.List 0) (p ++ d)
-      unfolding checkAnswer areaOrder after
-      list-empty e =
-          let none-broken : listOf kind flags area ≡ [] = no-room (listOf kind flags area) (sym counted ∙ e) in
-          let t = le-ltb (length d) (length (listOf kind flags area)) (omega (arith, counted)) in
-          record { says = rw (accepted, t, none-broken); holds = rw (accepted, t, none-broken) (same ∙ sym (over-none d)) }
-
-      -- in a well framed area a pass lays the list
-      second-laid : (said : Tally) (b held : List ℕ) → PassSays kind flags area b said held → length (listOf kind flags area) ≤ length b → held ≡ over (listOf kind flags area) b
-      unfolding PassSays
-      second-laid (Whole n) b held s room = laid-over (listOf kind flags area) b held n (s .lays) room
-      second-laid (Broken x) b held s room = no-refusal (x .number) (x .second) (sym (s .first) ∙ whole .sound)
+          let t = lt-ltb (length d) (length (listOf kind flags area)) (omega (arith, counted)) in
+          record { says = rw (counted, accepted, t); holds = rw (accepted, t) }
 
       -- the list
-      pub list-laid : (held : List ℕ) (said : Tally) → needed ≤ length (p ++ d) → PassSays kind flags area (p ++ d) said held → Checked kind flags area d (is.List needed) held
+      list-given : (held : List ℕ) → needed ≤ length d → held ≡ over (listOf kind flags area) d → Checked kind flags area d (is.List needed) held
       unfolding checkAnswer areaOrder after
-      list-laid held said h second =
-          let room : length (listOf kind flags area) ≤ length d = omega (arith, counted, ap length same) in
-          let t = le-ltb (length d) (length (listOf kind flags area)) room in
-          record {
-            says = rw (counted, accepted, t);
-            holds = rw (accepted, t) (second-laid said d held (rw same at second) room);
-          }
+      list-given held h same =
+          let t = le-ltb (length d) (length (listOf kind flags area)) (omega (arith, counted)) in
+          record { says = rw (counted, accepted, t); holds = rw (accepted, t) same }
+
+      -- it stands at the start of the buffer of the first pass, where that has room for it
+      pub list-few : (held : List ℕ) → needed ≤ length e → needed ≤ length d → held ≡ over (take needed p) d → Checked kind flags area d (is.List needed) held
+      unfolding over
+      list-few held few h same =
+          let list : List ℕ = listOf kind flags area in
+          let there : take needed p ≡ list =
+          ap (take needed) (laid-over list e p needed (whole .lays) (omega (arith, counted))) ∙ take-at list (drop (length list) e) needed (sym counted) in
+          list-given held h (same ∙ ap (λ (l : List ℕ). over l d) there)
+
+      -- else another pass lays it
+      pub list-laid : (held : List ℕ) (said : Tally) → needed ≤ length d → PassSays kind flags area d said held → Checked kind flags area d (is.List needed) held
+      unfolding PassSays
+      list-laid held said h second = list-given held h (laid said second)
+        where
+          laid : (said : Tally) → PassSays kind flags area d said held → held ≡ over (listOf kind flags area) d
+          laid (Whole n) s = laid-over (listOf kind flags area) d held n (s .lays) (omega (arith, counted))
+          laid (Broken x) s = no-refusal (x .number) (x .second) (sym (s .first) ∙ whole .sound)

@@ -1,5 +1,5 @@
-// The check: the list of an attribute area's breaches. One pass over the area tests the framing and only counts the entries, and
-// another lays them into the list.
+// The check: the list of an attribute area's breaches. One pass over the area tests the framing, counts the entries and lays them into a
+// buffer of its own, from which they are copied; where they are more than that has room for, another pass lays them into the list.
 use area::Arrival;
 use area::Refusal;
 use area::Step;
@@ -14,6 +14,7 @@ ghost use Rattle.meaning.specs.Shapes as shapes;
 ghost use Rattle.meaning.specs.Presence.{codeBars, codeDemands, codeWants};
 ghost use Rattle.meaning.specs.Breaches.{entry, onceOnly, asksPdpType, chosen};
 ghost use Rattle.meaning.specs.Breaches as meant;
+ghost use Rattle.meaning.specs.Answers.{over};
 ghost use Rattle.area.specs.Answers.{arrivalOf};
 ghost use Rattle.area.specs.declared.Arrival.the-variants.{Fit};
 ghost use Rattle.breach.specs.Table.{Known, Row};
@@ -435,14 +436,28 @@ fn pass(area: &[u8], codes: &[u8], kind: u32, flags: u32, list: &mut [u32]) -> T
     }
 }
 
-// The list of an area that comes with a fit kind, flags and length, at the buffer's start, or the first of refusals 4 to 8 and 10.
+// Copies entries over the list's start.
+fn copy_entries(list: &mut [u32], entries: &[u32])
+    requires { ⌜ length (now entries) ≤ length (now list) ⌝ }
+    ensures { λ _. ⌜ now (list .exit) ≡ over (now (entries .entry)) (now (list .entry)) ⌝ }
+{
+    let mut i: usize = 0;
+    while i < entries.len() {
+        list[i] = entries[i];
+        i += 1;
+    }
+}
+
+// The list of an area that comes with a fit kind, flags and length, at the buffer's start, or the first of refusals 4 to 8 and 10. Most
+// areas break little or nothing, and then one pass is enough.
 fn lay(area: &[u8], kind: u32, flags: u32, list: &mut [u32]) -> Checking
     requires { ⌜ arrivalOf kind flags (length (now area)) ≡ Fit ⌝ }
     ensures { λ r. ⌜ Checked kind flags (now (area .entry)) (now (list .entry)) r (now (list .exit)) ⌝ }
 {
     let row = presence::row_of(kind);
     let codes = &row[..];
-    match pass(area, codes, kind, flags, &mut list[..0]) {
+    let mut few = [0u32; 32];
+    match pass(area, codes, kind, flags, &mut few) {
         Tally::Broken(refusal) => {
             return Checking::Refused(refusal);
         }
@@ -453,9 +468,9 @@ fn lay(area: &[u8], kind: u32, flags: u32, list: &mut [u32]) -> Checking
                     second: needed,
                 });
             }
-            // Most areas break nothing: then there is nothing to lay.
-            if needed == 0 {
-                return Checking::List(0);
+            if needed <= 32 {
+                copy_entries(list, &few[..needed]);
+                return Checking::List(needed);
             }
             pass(area, codes, kind, flags, list);
             return Checking::List(needed);
