@@ -1,20 +1,19 @@
 -- What the tests of an item say, one answer at a time. Assumes nothing.
 use mathlib.Core.Path.{_≡_, refl, sym, ap, _∙_}
-use mathlib.Core.Logic.{⊎-elim}
 use mathlib.Core.Bool.{Bool, true, false, cond, not, _&&_, and-false}
 use mathlib.Core.List.{List}
 use Prim.Native.Nat.{ℕ, _+_, _-_, _<_, _≤_}
 use native.Mathlib.Omega.{arith}
-use lib.Dec.{eqb, leb, ltb, leb→le}
-use borrow.Author.Tests.{lt-ltb, le-ltb, le-leb, lt-leb, eq-eqb, ne-eqb, eqb-true, eqb-false, leb-true, ltb-true, ltb-false}
+use lib.Dec.{eqb, leb, ltb}
+use borrow.Author.Tests.{lt-ltb, le-ltb, le-leb, lt-leb, eq-eqb, ne-eqb, eqb-true, eqb-false, ltb-true, ltb-false}
 use lib.ListN.{length}
 use Rattle.meaning.specs.Octets.{numberOf}
 use Rattle.meaning.specs.Framing.{gpp, isPlain}
-use Rattle.meaning.specs.Shapes.{shapeOf}
-use Rattle.meaning.specs.Sheet.{subOf, formOf, form, decodes, carries, numberIn, storedLength}
+use Rattle.meaning.specs.Shapes.{shapeOf, meets}
+use Rattle.meaning.specs.Sheet.{subOf, carries, numberIn, storedLength}
 use Rattle.meaning.proofs.Tests.{not-both}
-use Rattle.meaning.proofs.Forms.{raw-low, either-way}
 use Rattle.octets.specs.Parts.{partOf}
+use Rattle.shape.specs.Codes.{codeOf, shapeBy}
 use Rattle.item.specs.Stands.{otherVendor, raw, shaped, standsFor, standsAs}
 use Rattle.item.proofs.Standing.{raw-stands, shaped-stands}
 
@@ -61,32 +60,25 @@ module _ (t s f : ℕ) where
 
 -- ---- Forms 0 and 1
 
-module _ (n f : ℕ) (v : List ℕ) where
+module _ (n code f : ℕ) (v : List ℕ) where
   -- in another form than 0 for a plain number and 1 for a 3GPP one
-  pub raw-other : (f ≡ cond (isPlain n) 0 1 → ⊥) → false ≡ raw n f v
+  pub raw-other : (f ≡ cond (isPlain n) 0 1 → ⊥) → false ≡ raw n code f v
   unfolding raw
-  raw-other h = go (leb f 1) refl
-    where
-      go : (b : Bool) → leb f 1 ≡ b → false ≡ b && (eqb (form n v) f && carries n v)
-      go false e = refl
-      go true e =
-          let low : f ≤ 1 = leb-true f 1 e in
-          rw (ne-eqb (form n v) f (λ q. ⊎-elim (λ d. omega (arith, d .form-is, leb→le 2 (formOf (shapeOf n)) (d .own))) (λ p. h (sym q ∙ p .form-is)) (either-way n v)))
+  raw-other h = rw (ne-eqb (cond (isPlain n) 0 1) f (λ e. h (sym e)))
 
-  -- where the shape is asked for: r is the form that the value takes
-  module _ (r : ℕ) (is : r ≡ form n v) where
-    pub raw-shaped : (r ≡ f → ⊥) → false ≡ raw n f v
-    unfolding raw
-    raw-shaped h = rw (ne-eqb (form n v) f (λ e. h (is ∙ e))) (sym (and-false (leb f 1)))
+  -- a value that meets a shape with a form of its own
+  pub raw-met : 20 ≤ code → meets (shapeBy code) v ≡ true → false ≡ raw n code f v
+  unfolding raw
+  raw-met h m = rw (le-leb 20 code h, m) (sym (and-false (eqb (cond (isPlain n) 0 1) f)))
 
-    pub raw-form : f ≡ cond (isPlain n) 0 1 → r ≡ f → carries n v ≡ raw n f v
-    unfolding raw
-    raw-form p e = rw (eq-eqb (form n v) f (sym is ∙ e), le-leb f 1 (omega (arith, p, raw-low (isPlain n))))
+  -- one that misses its shape, and one whose shape has no form of its own
+  pub raw-missed : f ≡ cond (isPlain n) 0 1 → meets (shapeBy code) v ≡ false → carries n v ≡ raw n code f v
+  unfolding raw
+  raw-missed p m = rw (eq-eqb (cond (isPlain n) 0 1) f (sym p), m, and-false (leb 20 code))
 
-  -- a number without a form of its own
-  pub raw-formless : f ≡ cond (isPlain n) 0 1 → leb 2 (formOf (shapeOf n)) ≡ false → carries n v ≡ raw n f v
-  unfolding form decodes
-  raw-formless p e = raw-form (cond (isPlain n) 0 1) (rw e) p (sym p)
+  pub raw-formless : f ≡ cond (isPlain n) 0 1 → code < 20 → carries n v ≡ raw n code f v
+  unfolding raw
+  raw-formless p h = rw (eq-eqb (cond (isPlain n) 0 1) f (sym p), lt-leb 20 code h)
 
 -- ---- The item
 
@@ -115,23 +107,23 @@ module _ (t s f c : ℕ) (st : List ℕ) (octet : t < 256) (long : length st ≡
       go true false q e = ne-eqb 0 s (λ g. eqb-false s 0 q (sym g))
       go false b q e = not-both (sym e)
 
-  by-raw : f < 2 → standsFor t s f c st ≡ eqb (subOf n) s && raw n f st
-  by-raw low = raw-stands t s f c st octet long (omega arith) ∙ ap (λ (k : ℕ). eqb (subOf k) s && raw k f st) (sym is)
+  by-raw : f < 2 → standsFor t s f c st ≡ eqb (subOf n) s && raw n (codeOf (shapeOf n)) f st
+  by-raw low = raw-stands t s f c st octet long (omega arith) ∙ ap (λ (k : ℕ). eqb (subOf k) s && raw k (codeOf (shapeOf k)) f st) (sym is)
 
-  by-shape : 2 ≤ f → standsFor t s f c st ≡ eqb (subOf n) s && shaped n f c st
-  by-shape high = shaped-stands t s f c st octet long high ∙ ap (λ (k : ℕ). eqb (subOf k) s && shaped k f c st) (sym is)
+  by-shape : 2 ≤ f → standsFor t s f c st ≡ eqb (subOf n) s && shaped (shapeOf n) f c st
+  by-shape high = shaped-stands t s f c st octet long high ∙ ap (λ (k : ℕ). eqb (subOf k) s && shaped (shapeOf k) f c st) (sym is)
 
   pub sub-wrong : ltb n 256 && not (eqb s 0) ≡ true → false ≡ standsFor t s f c st
   sub-wrong h = go (ltb f 2) refl
     where
       go : (b : Bool) → ltb f 2 ≡ b → false ≡ standsFor t s f c st
-      go true e = sym (by-raw (ltb-true f 2 e) ∙ ap (λ (a : Bool). a && raw n f st) (sub-bad h))
-      go false e = sym (by-shape (ltb-false f 2 e) ∙ ap (λ (a : Bool). a && shaped n f c st) (sub-bad h))
+      go true e = sym (by-raw (ltb-true f 2 e) ∙ ap (λ (a : Bool). a && raw n (codeOf (shapeOf n)) f st) (sub-bad h))
+      go false e = sym (by-shape (ltb-false f 2 e) ∙ ap (λ (a : Bool). a && shaped (shapeOf n) f c st) (sub-bad h))
 
   pub stands-as : ltb n 256 && not (eqb s 0) ≡ false → standsAs n f c st ≡ standsFor t s f c st
   unfolding standsAs
   stands-as h = go (ltb f 2) refl
     where
-      go : (b : Bool) → ltb f 2 ≡ b → cond b (raw n f st) (shaped n f c st) ≡ standsFor t s f c st
-      go true e = sym (by-raw (ltb-true f 2 e) ∙ ap (λ (a : Bool). a && raw n f st) (sub-fits h))
-      go false e = sym (by-shape (ltb-false f 2 e) ∙ ap (λ (a : Bool). a && shaped n f c st) (sub-fits h))
+      go : (b : Bool) → ltb f 2 ≡ b → cond b (raw n (codeOf (shapeOf n)) f st) (shaped (shapeOf n) f c st) ≡ standsFor t s f c st
+      go true e = sym (by-raw (ltb-true f 2 e) ∙ ap (λ (a : Bool). a && raw n (codeOf (shapeOf n)) f st) (sub-fits h))
+      go false e = sym (by-shape (ltb-false f 2 e) ∙ ap (λ (a : Bool). a && shaped (shapeOf n) f c st) (sub-fits h))

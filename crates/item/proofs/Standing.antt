@@ -1,13 +1,13 @@
 -- When some readable attribute gives an item: in forms 0 and 1 by the form of the value as it stands, in the others by the shape of
 -- the number. Assumes nothing.
-use mathlib.Core.Path.{_≡_, refl, sym, subst, _∙_}
+use mathlib.Core.Path.{_≡_, refl, sym, ap, subst, _∙_}
 use mathlib.Core.Logic.{_⊎_, inl, inr, ⊎-elim}
-use mathlib.Core.Bool.{Bool, true, false, cond, not, _&&_, _||_}
+use mathlib.Core.Bool.{Bool, true, false, cond, not, _&&_, _||_, and-false}
 use mathlib.Core.List.{List, _∷_}
 use Prim.Native.Nat.{ℕ, _<_, _≤_}
 use native.Mathlib.Omega.{arith}
 use lib.Dec.{T, eqb, leb, eqb→eq, leb→le}
-use borrow.Author.Tests.{lt-ltb, le-ltb, le-leb, lt-leb, eq-eqb, ne-eqb, eqb-true}
+use borrow.Author.Tests.{lt-ltb, le-ltb, le-leb, lt-leb, leb-true, leb-false, eq-eqb, ne-eqb, eqb-true}
 use lib.ListN.{length, take}
 use Rattle.meaning.specs.Octets.{between, all, same, isDigit, isHex, packedLength, unpack, numberOf}
 use Rattle.meaning.specs.Framing.{gpp, isPlain}
@@ -17,7 +17,8 @@ use Rattle.meaning.proofs.Tests.{both, parts, either, is-true, passes, same-one
 use Rattle.meaning.proofs.Packing.{unpack-length}
 use Rattle.meaning.proofs.Forms.{released, raw-low, either-way, Decoded, Plainly}
 use Rattle.octets.proofs.EachOne.{same-test}
-use Rattle.shape.proofs.Codes.{fifteen, at-most-fifteen}
+use Rattle.shape.specs.Codes.{codeOf}
+use Rattle.shape.proofs.Codes.{shape-back, form-in-code, fifteen, at-most-fifteen}
 use Rattle.item.specs.Stands.{standsFor, raw, held, shaped}
 use Rattle.item.proofs.Texts.{text-length}
 
@@ -58,14 +59,33 @@ plainly n v h = go (either-way n v)
     go (inl d) = absurd (let g : 2 ≤ formOf (shapeOf n) = leb→le 2 _ (d .own) in let e = d .form-is in omega arith)
     go (inr p) = (rw (ne-eqb (form n v) 4 (λ e. omega arith), p .stored-is), p .stored-is)
 
+-- the shapes with a form of their own have the codes from 20 on
+own-code : (s : Shape) → leb 20 (codeOf s) ≡ leb 2 (formOf s)
+own-code s = go (leb 20 (codeOf s)) refl
+  where
+    go : (b : Bool) → leb 20 (codeOf s) ≡ b → b ≡ leb 2 (formOf s)
+    go true e = sym (le-leb 2 (formOf s) (omega (arith, form-in-code s, leb-true 20 (codeOf s) e)))
+    go false e = sym (lt-leb 2 (formOf s) (omega (arith, form-in-code s, leb-false 20 (codeOf s) e)))
+
+-- a value stands as it is where its form is 0 or 1 and an attribute carries it
+raw-formed : (n f : ℕ) (v : List ℕ) → f ≤ 1 → eqb (form n v) f && carries n v ≡ raw n (codeOf (shapeOf n)) f v
+unfolding form decodes raw
+raw-formed n f v low = rw (own-code (shapeOf n), shape-back n) (go (leb 2 (formOf (shapeOf n)) && meets (shapeOf n) v) refl)
+  where
+    go : (b : Bool) → leb 2 (formOf (shapeOf n)) && meets (shapeOf n) v ≡ b → eqb (cond b (formOf (shapeOf n)) (cond (isPlain n) 0 1)) f && carries n v ≡ eqb (cond (isPlain n) 0 1) f && (not b && carries n v)
+    go false e = refl
+    go true e =
+        let own : 2 ≤ formOf (shapeOf n) = leb→le 2 (formOf (shapeOf n)) (parts (leb 2 (formOf (shapeOf n))) (meets (shapeOf n) v) (passes _ e) .0) in
+        rw (ne-eqb (formOf (shapeOf n)) f (λ g. omega arith)) (sym (and-false (eqb (cond (isPlain n) 0 1) f)))
+
 module _ (t s f c : ℕ) (st : List ℕ) (octet : t < 256) (long : length st ≡ storedLength f c) where
   -- the number that the head names
   abbrev named : ℕ
   named = numberIn t s f
 
-  pub raw-stands : f ≤ 1 → standsFor t s f c st ≡ eqb (subOf named) s && raw named f st
-  unfolding standsFor raw
-  raw-stands low = rw (le-leb f 1 low) (same-test _ _ there back)
+  pub raw-stands : f ≤ 1 → standsFor t s f c st ≡ eqb (subOf named) s && raw named (codeOf (shapeOf named)) f st
+  unfolding standsFor
+  raw-stands low = rw (le-leb f 1 low) (same-test _ _ there back) ∙ ap (λ (b : Bool). eqb (subOf named) s && b) (raw-formed named f st low)
     where
       there : T (carries named st && same (item named st) (t ∷ s ∷ f ∷ c ∷ st)) → T (eqb (subOf named) s && (eqb (form named st) f && carries named st))
       there p =
@@ -160,7 +180,7 @@ module _ (t s f c : ℕ) (st : List ℕ) (octet : t < 256) (long : length st ≡
   unfolding count
   other-count e k g = rw (e, g, k) (long ∙ rw g)
 
-  there : 2 ≤ f → T (carries numbered stood && same (item numbered stood) (t ∷ s ∷ f ∷ c ∷ st)) → T (eqb (subOf numbered) s && shaped numbered f c st)
+  there : 2 ≤ f → T (carries numbered stood && same (item numbered stood) (t ∷ s ∷ f ∷ c ∷ st)) → T (eqb (subOf numbered) s && shaped (shapeOf numbered) f c st)
   unfolding shaped held
   there high p =
       let h = headed numbered stood t s f c st (same-one (item numbered stood) (t ∷ s ∷ f ∷ c ∷ st) (parts (carries numbered stood) (same (item numbered stood) (t ∷ s ∷ f ∷ c ∷ st)) p .1)) in
@@ -173,7 +193,7 @@ module _ (t s f c : ℕ) (st : List ℕ) (octet : t < 256) (long : length st ≡
           (both (meets (shapeOf numbered) stood) _ (d .met) (rw (sym (d .stored-is) ∙ h .stored-is) (same-itself st))))
       go h (inr p) = absurd (let e = p .form-is in let g = h .form-is in omega (arith, raw-low (isPlain numbered)))
 
-  back : 2 ≤ f → T (eqb (subOf numbered) s && shaped numbered f c st) → T (carries numbered stood && same (item numbered stood) (t ∷ s ∷ f ∷ c ∷ st))
+  back : 2 ≤ f → T (eqb (subOf numbered) s && shaped (shapeOf numbered) f c st) → T (carries numbered stood && same (item numbered stood) (t ∷ s ∷ f ∷ c ∷ st))
   unfolding shaped held
   back high p =
       let q = parts (eqb (subOf numbered) s) (eqb (formOf (shapeOf numbered)) f && (leb 2 (formOf (shapeOf numbered)) && (meets (shapeOf numbered) stood && same (storedOf (shapeOf numbered) stood) st))) p in
@@ -195,6 +215,6 @@ module _ (t s f c : ℕ) (st : List ℕ) (octet : t < 256) (long : length st ≡
           go true g = digits-count fe e (eqb-true f 4 g)
           go false g = other-count e k g
 
-  pub shaped-stands : 2 ≤ f → standsFor t s f c st ≡ eqb (subOf numbered) s && shaped numbered f c st
+  pub shaped-stands : 2 ≤ f → standsFor t s f c st ≡ eqb (subOf numbered) s && shaped (shapeOf numbered) f c st
   unfolding standsFor
   shaped-stands high = rw (lt-leb f 1 (omega arith)) (same-test _ _ (there high) (back high))

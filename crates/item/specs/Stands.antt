@@ -6,9 +6,10 @@ use mathlib.Core.List.{List, _∷_}
 use lib.Dec.{eqb, leb, ltb}
 use lib.ListN.{length, take}
 use Rattle.meaning.specs.Octets.{between, same, numberOf}
-use Rattle.meaning.specs.Framing.{vendor3gpp}
+use Rattle.meaning.specs.Framing.{isPlain, vendor3gpp}
 use Rattle.meaning.specs.Shapes.{Shape, number, address, digits, hexadecimal, qos, hexDigit, anyOctet, decimalDigit, atLeast, exactly, blocks, free, shapeOf, meets}
-use Rattle.meaning.specs.Sheet.{formOf, storedOf, valueOf, form, item, carries, numberIn, valueIn}
+use Rattle.meaning.specs.Sheet.{formOf, storedOf, valueOf, item, carries, numberIn, valueIn}
+use Rattle.shape.specs.Codes.{codeOf, shapeBy}
 
 -- some readable attribute gives the item of this head and these stored octets
 unfoldable pub standsFor : (type sub form count : ℕ) → List ℕ → Bool
@@ -20,9 +21,10 @@ standsFor t s f c st =
 unfoldable pub otherVendor : List ℕ → Bool
 otherVendor v = leb 5 (length v) && not (eqb (numberOf (take 4 v)) vendor3gpp)
 
--- a value that stands as it is, in form 0 or 1
-unfoldable pub raw : (number form : ℕ) → List ℕ → Bool
-raw n f v = leb f 1 && (eqb (form n v) f && carries n v)
+-- a value stands as it is, in form 0 or 1: an attribute carries it, and it meets no shape that has a form of its own. The number's shape
+-- is told by its code; the shapes from code 20 on have such a form
+unfoldable pub raw : (number code form : ℕ) → List ℕ → Bool
+raw n code f v = eqb (cond (isPlain n) 0 1) f && (not (leb 20 code && meets (shapeBy code) v) && carries n v)
 
 -- a shape is of digits, and takes so many
 unfoldable pub takesDigits : Shape → (count : ℕ) → Bool
@@ -43,10 +45,10 @@ takesDigits free c = false
 unfoldable pub held : Shape → (count : ℕ) → List ℕ → Bool
 held s c st = leb 2 (formOf s) && (meets s (valueOf s c st) && same (storedOf s (valueOf s c st)) st)
 
--- the same of the shape of a number, whose form is this one
-unfoldable pub shaped : (number form count : ℕ) → List ℕ → Bool
-shaped n f c st = eqb (formOf (shapeOf n)) f && held (shapeOf n) c st
+-- the same of a shape whose form is this one
+unfoldable pub shaped : Shape → (form count : ℕ) → List ℕ → Bool
+shaped s f c st = eqb (formOf s) f && held s c st
 
 -- some readable attribute of a number gives an item of this form, count and stored octets: a value as it stands, or in its shape
 unfoldable pub standsAs : (number form count : ℕ) → List ℕ → Bool
-standsAs n f c st = cond (ltb f 2) (raw n f st) (shaped n f c st)
+standsAs n f c st = cond (ltb f 2) (raw n (codeOf (shapeOf n)) f st) (shaped (shapeOf n) f c st)

@@ -5,9 +5,10 @@ ghost use mathlib.Core.Path.{_≡_};
 ghost use mathlib.Core.Bool.{_&&_};
 ghost use lib.Dec.{eqb, leb};
 ghost use lib.ListN.{length, getD};
-ghost use Rattle.meaning.specs.Shapes.{qos, shapeOf};
+ghost use Rattle.meaning.specs.Shapes.{qos};
 ghost use Rattle.meaning.specs.Sheet.{numberIn};
 ghost use Rattle.meaning.specs.Sheet as meant;
+ghost use Rattle.shape.specs.Codes.{shapeBy};
 ghost use Rattle.item.specs.Stands.{otherVendor, takesDigits, held, shaped, raw};
 ghost use Rattle.item.specs.Answers.{headedAt, headRefused};
 
@@ -72,48 +73,28 @@ pub fn carries(number: u16, value: &[u8]) -> bool
     other_vendor(value)
 }
 
-// Whether a number has a form of its own, 2 to 7: plain 4, 6 to 9, 31, 40 to 49 and 61, 3GPP 1 to 12 and 18.
-fn has_form(number: u16) -> bool
-    ensures { λ r. ⌜ r ≡ leb 2 (meant.formOf (shapeOf number)) ⌝ }
+// Whether the shape of a code is digits, and it takes so many: 1 to 15, or 5 or 6.
+pub fn takes_digits(code: u8, count: u8) -> bool
+    ensures { λ r. ⌜ r ≡ takesDigits (shapeBy code) count ⌝ }
 {
-    shape::is_in(0x2003_ff00_8000_03d0, 0x4_1ffe, number)
-}
-
-// Whether a number's own form is 2, a number: plain 6, 7, 40 to 43, 45 to 49 and 61, 3GPP 2 and 3.
-pub fn is_number(number: u16) -> bool
-    ensures { λ r. ⌜ r ≡ eqb (meant.formOf (shapeOf number)) 2 ⌝ }
-{
-    shape::is_in(0x2003_ef00_0000_00c0, 0xc, number)
-}
-
-// Whether a number's own form is 3, an address: plain 4, 8 and 9, 3GPP 4, 6 and 7.
-pub fn is_address(number: u16) -> bool
-    ensures { λ r. ⌜ r ≡ eqb (meant.formOf (shapeOf number)) 3 ⌝ }
-{
-    shape::is_in(0x310, 0xd0, number)
-}
-
-// Whether a number's own form is 4, digits, and it takes so many: 3GPP 8, 9 and 18 take 5 or 6, plain 31 and 3GPP 1 take 1 to 15.
-pub fn takes_digits(number: u16, count: u8) -> bool
-    ensures { λ r. ⌜ r ≡ takesDigits (shapeOf number) count ⌝ }
-{
-    if shape::is_in(0, 0x4_0300, number) {
+    if code == 41 {
         return (5 <= count) & (count <= 6);
     }
-    shape::is_in(0x8000_0000, 2, number) & ((1 <= count) & (count <= 15))
+    (code == 40) & ((1 <= count) & (count <= 15))
 }
 
-// Whether a value stands as it is, in form 0 or 1: it takes that form, and an attribute carries it. Only a number with a form of its
-// own has a shape to ask for.
-pub fn is_raw(number: u16, form: u8, value: &[u8]) -> bool
-    ensures { λ r. ⌜ r ≡ raw number form (now (value .entry)) ⌝ }
+// Whether a value of a number stands as it is, in form 0 or 1, where the code is that of the number's shape: it takes that form, and an
+// attribute carries it.
+pub fn is_raw(number: u16, code: u8, form: u8, value: &[u8]) -> bool
+    ensures { λ r. ⌜ r ≡ raw number code form (now (value .entry)) ⌝ }
 {
     let plain: u8 = if number < 256 { 0 } else { 1 };
     if form != plain {
         return false;
     }
-    if has_form(number) {
-        if shape::form_of(number, value) != form {
+    // A shape whose code is below 20 has no form of its own that the value could take.
+    if 20 <= code {
+        if shape::meets_code(code, value) {
             return false;
         }
     }
@@ -143,14 +124,14 @@ fn holds_one(stored: &[u8], most: u8) -> bool
     stored[0] <= most
 }
 
-// Whether a number's own form is 7, one octet, and octets are one that it takes.
-pub fn is_octet(number: u16, stored: &[u8]) -> bool
-    ensures { λ r. ⌜ r ≡ shaped number 7 (length (now (stored .entry))) (now (stored .entry)) ⌝ }
+// Whether the shape of a code is of form 7, one octet, and octets are one that it takes.
+pub fn is_octet(code: u8, stored: &[u8]) -> bool
+    ensures { λ r. ⌜ r ≡ shaped (shapeBy code) 7 (length (now (stored .entry))) (now (stored .entry)) ⌝ }
 {
-    match number {
-        266 => holds_one(stored, 15),
-        267 => stored.len() == 1,
-        268 => holds_one(stored, 9),
+    match code {
+        70 => holds_one(stored, 15),
+        71 => stored.len() == 1,
+        72 => holds_one(stored, 9),
         _ => false,
     }
 }

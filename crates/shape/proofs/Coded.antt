@@ -36,11 +36,11 @@ past-not-in before n (l ∷ arms) p =
     not-one n l (named arms) (past-before (before × (OneOf l n → ⊥)) n arms p .1) (past-not-in (before × (OneOf l n → ⊥)) n arms p)
 
 -- a test passes at each number below a bound
-abbrev pub below : (ℕ → Bool) → ℕ → Bool
+abbrev below : (ℕ → Bool) → ℕ → Bool
 below p zero = true
 below p (suc n) = p n && below p n
 
-pub below-at : (p : ℕ → Bool) (bound n : ℕ) → T (below p bound) → n < bound → T (p n)
+below-at : (p : ℕ → Bool) (bound n : ℕ) → T (below p bound) → n < bound → T (p n)
 below-at p zero n t h = absurd (omega (arith, h))
 below-at p (suc b) n t h = go (ltb n b) refl (below-at p b n (parts (p b) (below p b) t .1))
   where
@@ -76,7 +76,7 @@ gpp-above : (s : ℕ) → 19 ≤ s → gppShape s ≡ free
 unfolding gppShape
 gpp-above s h = simp (from 19 s h)
 
-pub above : (n : ℕ) → 275 ≤ n → shapeOf n ≡ free
+above : (n : ℕ) → 275 ≤ n → shapeOf n ≡ free
 unfolding shapeOf
 above n h = rw (le-ltb n 256 (omega arith)) (gpp-above (n - 256) (omega arith))
 
@@ -193,18 +193,18 @@ shape-other n p =
 -- ---- A test of the shapes of numbers
 
 -- a test passes at the shape of each number from one to below another, but for some numbers
-abbrev pub passesIn : (Shape → Bool) → (but : List ℕ) (from to : ℕ) → Bool
+abbrev passesIn : (Shape → Bool) → (but : List ℕ) (from to : ℕ) → Bool
 passesIn p but from to = below (λ k. isIn (from + k) but || p (shapeOf (from + k))) (to - from)
 
 module _ (p : Shape → Bool) (but : List ℕ) (from : ℕ) where
-  pub passes-in : (to : ℕ) → T (passesIn p but from to) → (n : ℕ) → isIn n but ≡ false → from ≤ n → n < to → T (p (shapeOf n))
+  passes-in : (to : ℕ) → T (passesIn p but from to) → (n : ℕ) → isIn n but ≡ false → from ≤ n → n < to → T (p (shapeOf n))
   passes-in to t n out low high =
       let e : from + (n - from) ≡ n = omega arith in
       subst (λ (b : Bool). T (b || p (shapeOf n))) out
       (subst (λ (k : ℕ). T (isIn k but || p (shapeOf k))) e (below-at (λ (k : ℕ). isIn (from + k) but || p (shapeOf (from + k))) (to - from) (n - from) t (omega arith)))
 
   -- and so from a number on
-  pub passes-from : T (p free) → T (passesIn p but from 275) → (n : ℕ) → isIn n but ≡ false → from ≤ n → T (p (shapeOf n))
+  passes-from : T (p free) → T (passesIn p but from 275) → (n : ℕ) → isIn n but ≡ false → from ≤ n → T (p (shapeOf n))
   passes-from f t n out low = go (ltb n 275) refl
     where
       go : (less : Bool) → ltb n 275 ≡ less → T (p (shapeOf n))

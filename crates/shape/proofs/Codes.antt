@@ -1,11 +1,11 @@
 -- Laws of the codes: a number's shape comes back from its code, the tens are its form, and what a code that no shape has means.
 -- Assumes nothing.
-use mathlib.Core.Path.{_≡_, refl, subst}
+use mathlib.Core.Path.{_≡_, refl, sym, subst}
 use mathlib.Core.Bool.{Bool, true, false, cond, _&&_}
 use mathlib.Core.List.{List, [], _∷_, map}
 use Prim.Native.Nat.{ℕ, _-_, _/_, _<_, _≤_}
 use lib.Dec.{T, eqb, leb}
-use borrow.Author.Tests.{lt-ltb, le-ltb, ne-eqb}
+use borrow.Author.Tests.{lt-ltb, le-ltb, ne-eqb, eqb-true}
 use types.Run.{OneOf}
 use Rattle.meaning.specs.Shapes.{Shape, number, address, digits, hexadecimal, qos, hexDigit, anyOctet, decimalDigit, atLeast, exactly, blocks, free, plainShape, gppShape, shapeOf}
 use Rattle.meaning.specs.Sheet.{formOf}
@@ -74,19 +74,24 @@ abbrev pub each : (Shape → Bool) → List Shape → Bool
 each p [] = true
 each p (s ∷ l) = p s && each p l
 
-among-passes : (p : Shape → Bool) (l : List Shape) (code : ℕ) → T (p free) → T (each p l) → T (p (shapeAmong l code))
+among-passes : (p : ℕ → Shape → Bool) (l : List Shape) (code : ℕ) → T (p code free) → T (each (λ s. p (codeOf s) s) l) → T (p code (shapeAmong l code))
 among-passes p [] code f t = f
 among-passes p (s ∷ l) code f t =
-    go (eqb code (codeOf s)) (shapeAmong l code) (parts (p s) (each p l) t .0) (among-passes p l code f (parts (p s) (each p l) t .1))
+    let h = parts (p (codeOf s) s) (each (λ (x : Shape). p (codeOf x) x) l) t in
+    go (eqb code (codeOf s)) (shapeAmong l code) refl (h .0) (among-passes p l code f (h .1))
   where
-    go : (b : Bool) (other : Shape) → T (p s) → T (p other) → T (p (cond b s other))
-    go true other h g = h
-    go false other h g = g
+    go : (b : Bool) (other : Shape) → eqb code (codeOf s) ≡ b → T (p (codeOf s) s) → T (p code other) → T (p code (cond b s other))
+    go true other e h g = subst (λ (k : ℕ). T (p k s)) (sym (eqb-true code (codeOf s) e)) h
+    go false other e h g = g
+
+-- a test of a code and its shape that passes at each shape passes at every code
+pub every-code : (p : ℕ → Shape → Bool) (code : ℕ) → T (p code free) → T (each (λ s. p (codeOf s) s) shapes) → T (p code (shapeBy code))
+unfolding shapeBy
+every-code p = among-passes p shapes
 
 -- a test that passes at each shape passes at the shape of every number
 pub every-shape : (p : Shape → Bool) → T (p free) → T (each p shapes) → (n : ℕ) → T (p (shapeOf n))
-unfolding shapeBy
-every-shape p f t n = subst (λ (s : Shape). T (p s)) (shape-back n) (among-passes p shapes (codeOf (shapeOf n)) f t)
+every-shape p f t n = subst (λ (s : Shape). T (p s)) (shape-back n) (every-code (λ code s. p s) (codeOf (shapeOf n)) f t)
 
 -- a shape of digits asks for 1 to 15
 abbrev pub fifteen : Shape → Bool

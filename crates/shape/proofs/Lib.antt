@@ -1,6 +1,5 @@
 pub mod Codes
 pub mod Coded
-pub mod Sets
 pub mod Meeting
 pub mod Formed
 pub mod Items

@@ -9,9 +9,8 @@ ghost use Rattle.meaning.specs.Octets.{all, isHex, digitValue};
 ghost use Rattle.meaning.specs.Shapes.{digits, qos, plainShape, gppShape, shapeOf, release};
 ghost use Rattle.meaning.specs.Shapes as meant;
 ghost use Rattle.meaning.specs.Framing.{isPlain};
-ghost use Rattle.meaning.specs.Sheet.{formOf, form, storedLength};
+ghost use Rattle.meaning.specs.Sheet.{formOf, storedLength};
 ghost use Rattle.shape.specs.Codes.{codeOf, shapeBy};
-ghost use Rattle.shape.specs.Sets.{inSets};
 ghost use Rattle.shape.specs.Items.{undigited, rawItem, itemFor};
 
 // "An item's value is either a number, an address, digits or plain octets": plain octets as a part of the area; the digits stand
@@ -31,15 +30,6 @@ pub struct Item {
     pub count: usize,
     pub value: Value,
     pub digits: octets::Digits,
-}
-
-// Whether a number is in a set of plain numbers or in one of 3GPP numbers, each below 64: the bits of two numbers.
-pub fn is_in(plain: u64, gpp: u64, number: u16) -> bool
-    ensures { λ r. ⌜ r ≡ inSets plain gpp number ⌝ }
-{
-    let set = if number < 256 { plain } else { gpp };
-    let n = if number < 256 { number } else { number - 256 };
-    (n < 64) & ((set >> (n % 64) as u64) % 2 == 1)
 }
 
 // The code of a plain number's shape.
@@ -175,8 +165,8 @@ fn meets_blocks(value: &[u8]) -> bool
     (16 <= len) & (len <= 128) & (len % 16 == 0)
 }
 
-// Whether a value meets the shape of a code.
-fn meets_code(code: u8, value: &[u8]) -> bool
+// Whether a value meets the shape of a code; a code that no shape has asks for nothing.
+pub fn meets_code(code: u8, value: &[u8]) -> bool
     ensures { λ r. ⌜ r ≡ meant.meets (shapeBy code) (now (value .entry)) ⌝ }
 {
     match code {
@@ -229,22 +219,6 @@ fn plain_form(number: u16) -> u8
     ensures { λ r. ⌜ r ≡ cond (isPlain number) 0 1 ⌝ }
 {
     if number < 256 { 0 } else { 1 }
-}
-
-// The form that a value of a carried number takes.
-pub fn form_of(number: u16, value: &[u8]) -> u8
-    ensures { λ r. ⌜ r ≡ form number (now (value .entry)) ⌝ }
-{
-    let code = code_of(number);
-    let own = code / 10;
-    if own < 2 {
-        return plain_form(number);
-    }
-    if meets_code(code, value) {
-        own
-    } else {
-        plain_form(number)
-    }
 }
 
 // The octet that form 7 stores: any octet as it stands, or what a digit stands for.

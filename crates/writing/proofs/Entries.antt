@@ -1,62 +1,69 @@
--- An item that is found at a place of a sheet, and the attribute that it gives. Assumes nothing.
-use mathlib.Core.Path.{_≡_, refl, ap, _∙_}
-use mathlib.Core.Bool.{Bool, true, false, cond}
-use mathlib.Core.List.{List, [], _∷_, _++_}
+-- The attribute that an item gives, as the writers lay it, and an item that is found at a place of a sheet. Assumes nothing.
+use mathlib.Core.Path.{_≡_, refl, sym, ap, _∙_}
+use mathlib.Core.Bool.{Bool, true, false}
+use mathlib.Core.List.{List}
 use Prim.Native.Nat.{ℕ, _+_, _-_, _<_, _≤_}
 use native.Mathlib.Omega.{arith}
-use lib.Dec.{T, leb, leb→le}
-use lib.ListN.{length, take, drop, getD, length-append}
+use lib.ListN.{length, take, drop, getD, length-drop}
+use lib.Seq.{length-take-le, take-all}
 use Rattle.meaning.specs.Octets.{Octets}
-use Rattle.meaning.specs.Framing.{isPlain, headLength}
-use Rattle.meaning.specs.Sheet.{attributeOctets, carries, storedLength, holds, refused}
+use Rattle.meaning.specs.Framing.{headLength}
+use Rattle.meaning.specs.Sheet.{attributeOctets, storedLength, holds, refused}
 use Rattle.meaning.proofs.Octets.{octet-at, octets-take, octets-drop}
-use Rattle.meaning.proofs.Tests.{parts}
-use Rattle.meaning.proofs.Framing.{plain-lines, gpp-lines}
-use Rattle.meaning.proofs.Items.{entered-holds, number-low}
+use Rattle.meaning.proofs.Items.{number-low}
+use Rattle.meaning.proofs.Tests.{not-both}
+use Rattle.octets.specs.Parts.{laidAt}
 use Rattle.item.specs.declared.Headed.{Headed}
 use Rattle.item.specs.declared.Headed.the-variants.{Item}
 use Rattle.item.specs.Stands.{standsAs}
 use Rattle.item.specs.Answers.{enteredAt, headedAt}
 use Rattle.item.proofs.Entering.{size-at, AHead, a-head, size-stored, item-is}
-use Rattle.writing.specs.Attributes.{valueLength, valueAs, attributeHead}
+use Rattle.writing.specs.Attributes.{valueAs, attributeFront, lengthsAt, Laying, Attributed}
+use Rattle.writing.proofs.Putting.{attribute-long, attribute-stands}
 use Rattle.writing.proofs.Values.{shown}
 
--- ---- An attribute by its head and its value
+-- ---- The attribute of an item
 
-pub attribute-parts : (n : ℕ) (v : List ℕ) → attributeOctets n v ≡ attributeHead n (length v) ++ v
-unfolding attributeOctets attributeHead
-attribute-parts n v = go (isPlain n)
-  where
-    go : (b : Bool) → cond b (n ∷ (length v + 2) ∷ v) (26 ∷ (length v + 8) ∷ 0 ∷ 0 ∷ 40 ∷ 175 ∷ (n - 256) ∷ (length v + 2) ∷ v) ≡ cond b (n ∷ (length v + 2) ∷ []) (26 ∷ (length v + 8) ∷ 0 ∷ 0 ∷ 40 ∷ 175 ∷ (n - 256) ∷ (length v + 2) ∷ []) ++ v
-    go true = refl
-    go false = refl
+-- the front was laid, and the writer of the value answered
+module _ (n f c : ℕ) (st : List ℕ) (o : Octets st) (long : length st ≡ storedLength f c) (at put : ℕ) (front first : List ℕ) (v : Laying (at + headLength n) (standsAs n f c st) (valueAs n f c st) front put first) where
+  -- no readable attribute gives the item
+  pub attributed-none : put ≡ 256 → (d out : List ℕ) → Attributed at n f c st d 0 out
+  attributed-none e d out = go (standsAs n f c st) refl
+    where
+      go : (b : Bool) → standsAs n f c st ≡ b → Attributed at n f c st d 0 out
+      go false t = record { says = rw t; is = λ q. not-both (sym (sym t ∙ q)) }
+      go true t = absurd (let k : put ≡ length (valueAs n f c st) = v .says ∙ rw t in omega (arith, shown n f c st o long t .short))
 
-head-long : (n k : ℕ) → length (attributeHead n k) ≡ headLength n
-unfolding attributeHead headLength
-head-long n k = go (isPlain n)
-  where
-    go : (b : Bool) → length (cond b (n ∷ (k + 2) ∷ []) (26 ∷ (k + 8) ∷ 0 ∷ 0 ∷ 40 ∷ 175 ∷ (n - 256) ∷ (k + 2) ∷ [])) ≡ cond b 2 8
-    go true = refl
-    go false = refl
+  -- one does
+  module _ (h : put ≡ 256 → ⊥) where
+    stands : standsAs n f c st ≡ true
+    stands = go (standsAs n f c st) refl
+      where
+        go : (b : Bool) → standsAs n f c st ≡ b → b ≡ true
+        go true t = refl
+        go false t = absurd (h (v .says ∙ rw t))
 
--- an attribute that is carried is no longer than an octet says
-carried-short : (n : ℕ) (v : List ℕ) → T (carries n v) → headLength n + length v < 256
-unfolding headLength
-carried-short n v t = go (isPlain n) refl
-  where
-    go : (b : Bool) → isPlain n ≡ b → cond b 2 8 + length v < 256
-    go true e = let h : length v ≤ 253 = leb→le (length v) 253 (parts (leb (length v) 253) _ (plain-lines n v e t) .0) in omega arith
-    go false e = let h : length v ≤ 246 = gpp-lines n v e t in omega arith
+    put-is : put ≡ length (valueAs n f c st)
+    put-is = v .says ∙ rw stands
+
+    pub put-short : headLength n + put < 256
+    put-short = omega (arith, put-is, shown n f c st o long stands .short)
+
+    pub attributed : (d out : List ℕ) → at + headLength n ≤ length d → front ≡ laidAt at (attributeFront n) d → out ≡ lengthsAt at (headLength n) put first → Attributed at n f c st d (headLength n + put) out
+    attributed d out room g p =
+        record {
+          says = rw stands (omega (arith, put-is, attribute-long n (valueAs n f c st)));
+          is = λ q. attribute-stands n put at (valueAs n f c st) d front first out put-is room g (v .is stands) p;
+        }
 
 -- ---- At a place
 
 -- an item at a place of the sheet l, with its value, which some readable attribute gives
-pub record Entry (l : List ℕ) (p n : ℕ) (v : List ℕ) (k behind : ℕ) : Type 0 where
+pub record Entry (l : List ℕ) (p n : ℕ) (v : List ℕ) (behind : ℕ) : Type 0 where
   pub size : ℕ
   pub entered-is : enteredAt l p ≡ holds n v size
   pub behind-is : behind ≡ p + size
-  pub value-long : length v ≡ k
-  pub short : headLength n + k < 256
+  pub short : length (attributeOctets n v) < 256
 
 -- the item whose head `head_at` answered
 module _ (l : List ℕ) (p : ℕ) (o : Octets l) (r : Headed) (says : r ≡ headedAt l p) (n f c behind : ℕ) (q : r ≡ Item n f c behind) where
@@ -79,29 +86,35 @@ module _ (l : List ℕ) (p : ℕ) (o : Octets l) (r : Headed) (says : r ≡ head
   pub carried-low : n < 512
   carried-low = omega (arith, head .number-is, number-low (getD l p 0) (getD l (p + 1) 0) (getD l (p + 2) 0) (octet-at l p o) (octet-at l (p + 1) o))
 
-  pub stored-size : length stored-here ≡ storedLength f c
+  stored-size : length stored-here ≡ storedLength f c
   stored-size = size-stored l p o r says n f c behind head
+
+  -- what stands behind its head
+  abbrev rest-here : List ℕ
+  rest-here = take (length l - (p + 4)) (drop (p + 4) l)
+
+  rest-is : rest-here ≡ drop (p + 4) l
+  rest-is = take-all (length l - (p + 4)) (drop (p + 4) l) (omega (arith, length-drop (p + 4) l))
+
+  pub size-is : behind - (p + 4) ≡ storedLength f c
+  size-is = sym (length-take-le (behind - (p + 4)) (drop (p + 4) l) (omega (arith, behind-within, length-drop (p + 4) l))) ∙ stored-size
+
+  pub size-within : behind - (p + 4) ≤ length rest-here
+  size-within = omega (arith, ap length rest-is, length-drop (p + 4) l, behind-within)
+
+  -- the first of it are its stored octets
+  pub attributed-here : (at put : ℕ) (d out : List ℕ) → Attributed at n f c (take (behind - (p + 4)) rest-here) d put out → Attributed at n f c stored-here d put out
+  attributed-here at put d out a = rw rest-is at a
 
   pub no-entry : standsAs n f c stored-here ≡ false → enteredAt l p ≡ refused 23
   no-entry e = item-is l p o r says n f c behind head ∙ rw e
 
-  pub entry-here : standsAs n f c stored-here ≡ true → Entry l p n (valueAs n f c stored-here) (valueLength f c) behind
-  unfolding enteredAt
+  pub entry-here : standsAs n f c stored-here ≡ true → Entry l p n (valueAs n f c stored-here) behind
   entry-here e =
       let k = shown n f c stored-here stored-octets stored-size e in
-      let size : ℕ = size-at l p in
-      let here : enteredAt l p ≡ holds n (valueAs n f c stored-here) size = item-is l p o r says n f c behind head ∙ rw e (ap (λ (v : List ℕ). holds n v size) (k .value-is)) in
-      let a = entered-holds (drop p l) n (valueAs n f c stored-here) size (octets-drop p l o) here in
       record {
-        size = size;
-        entered-is = here;
+        size = size-at l p;
+        entered-is = item-is l p o r says n f c behind head ∙ rw e (ap (λ (v : List ℕ). holds n v (size-at l p)) (k .value-is));
         behind-is = head .behind-is;
-        value-long = k .value-long;
-        short = omega (arith, carried-short n (valueAs n f c stored-here) (a .carried), k .value-long);
+        short = omega (arith, k .short, attribute-long n (valueAs n f c stored-here));
       }
-
--- the octets of the attribute that an item gives
-pub attribute-long : (n : ℕ) (v : List ℕ) → length (attributeOctets n v) ≡ headLength n + length v
-attribute-long n v =
-    ap length (attribute-parts n v) ∙ length-append (attributeHead n (length v)) v
-    ∙ (omega (arith, head-long n (length v)))

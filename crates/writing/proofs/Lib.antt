@@ -1,8 +1,8 @@
+pub mod Putting
 pub mod Values
+pub mod Valuing
 pub mod Entries
 pub mod Walking
-pub mod Putting
-pub mod Valuing
 pub mod Transcribing
 pub mod Whole
 pub mod Exactly

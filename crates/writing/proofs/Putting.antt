@@ -12,12 +12,12 @@ use lib.ListN.{length, take, drop, getD, set, length-drop, length-set}
 use lib.Seq.{take-all, take-suc, length-take-le}
 use Rattle.meaning.specs.Octets.{digitText, text, unpack}
 use Rattle.meaning.specs.Framing.{headLength}
-use Rattle.meaning.specs.Sheet.{marked}
+use Rattle.meaning.specs.Sheet.{attributeOctets, marked}
 use Rattle.octets.specs.Parts.{laidAt, Begun}
 use Rattle.octets.proofs.Overs.{each-laid, laid-two}
 use Rattle.octets.proofs.Begun.{begun-laid, begun-on}
 use Rattle.item.proofs.Texts.{whole-length}
-use Rattle.writing.specs.Attributes.{attributeHead, attributeFront, lengthsAt, profileText}
+use Rattle.writing.specs.Attributes.{attributeFront, lengthsAt, profileText}
 
 -- an attribute's head has two octets at least
 pub head-two : (n : ℕ) → 2 ≤ headLength n
@@ -81,12 +81,12 @@ unfolding attributeFront
 gpp-front n at d first out h room f e =
     e ∙ rw (f, le-ltb n 256 h) (laid-two at 4 (26 ∷ 0 ∷ 0 ∷ 0 ∷ []) (40 ∷ 175 ∷ (n - 256) ∷ 0 ∷ []) d refl room)
 
--- The front, the value behind it and then the lengths: the head and the value stand there.
-pub head-stands : (n k at : ℕ) (v d front first out : List ℕ) → at + headLength n ≤ length d → front ≡ laidAt at (attributeFront n) d → Begun (at + headLength n) v front first → out ≡ lengthsAt at (headLength n) k first → Begun at (attributeHead n k ++ v) d out
-unfolding attributeFront attributeHead lengthsAt headLength
-head-stands n k at v d front first out room f w e = go (ltb n 256) room f w e
+-- The front, the value behind it and then the lengths: the attribute stands there.
+pub attribute-stands : (n k at : ℕ) (v d front first out : List ℕ) → k ≡ length v → at + headLength n ≤ length d → front ≡ laidAt at (attributeFront n) d → Begun (at + headLength n) v front first → out ≡ lengthsAt at (headLength n) k first → Begun at (attributeOctets n v) d out
+unfolding attributeFront attributeOctets lengthsAt headLength
+attribute-stands n k at v d front first out long room f w e = rw (sym long) (go (ltb n 256) room f w e)
   where
-    go : (b : Bool) → at + cond b 2 8 ≤ length d → front ≡ laidAt at (cond b (n ∷ []) (26 ∷ 0 ∷ 0 ∷ 0 ∷ 40 ∷ 175 ∷ (n - 256) ∷ 0 ∷ [])) d → Begun (at + cond b 2 8) v front first → out ≡ set (set first (at + cond b 2 8 - 1) (k + 2)) (at + 1) (k + cond b 2 8) → Begun at (cond b (n ∷ (k + 2) ∷ []) (26 ∷ (k + 8) ∷ 0 ∷ 0 ∷ 40 ∷ 175 ∷ (n - 256) ∷ (k + 2) ∷ []) ++ v) d out
+    go : (b : Bool) → at + cond b 2 8 ≤ length d → front ≡ laidAt at (cond b (n ∷ []) (26 ∷ 0 ∷ 0 ∷ 0 ∷ 40 ∷ 175 ∷ (n - 256) ∷ 0 ∷ [])) d → Begun (at + cond b 2 8) v front first → out ≡ set (set first (at + cond b 2 8 - 1) (k + 2)) (at + 1) (k + cond b 2 8) → Begun at (cond b (n ∷ (k + 2) ∷ v) (26 ∷ (k + 8) ∷ 0 ∷ 0 ∷ 40 ∷ 175 ∷ (n - 256) ∷ (k + 2) ∷ v)) d out
     go true room f w e =
         let x : ℕ = getD front (at + 1) 0 in
         let last : at + 2 - 1 ≡ at + 1 = omega arith in
@@ -97,6 +97,15 @@ head-stands n k at v d front first out room f w e = go (ltb n 256) room f w e
         let last : at + 8 - 1 ≡ at + 7 = omega arith in
         let b = begun-on at (at + 8) s v d front first refl (begun-laid at s d front room f) w in
         rw (e, last) (begun-set at (26 ∷ 0 ∷ 0 ∷ 0 ∷ 40 ∷ 175 ∷ (n - 256) ∷ (k + 2) ∷ v) d _ 1 (k + 8) (omega arith) (begun-set at (s ++ v) d first 7 (k + 2) (omega arith) b))
+
+-- Its octets are those of the head and those of the value.
+pub attribute-long : (n : ℕ) (v : List ℕ) → length (attributeOctets n v) ≡ headLength n + length v
+unfolding attributeOctets headLength
+attribute-long n v = go (ltb n 256)
+  where
+    go : (b : Bool) → length (cond b (n ∷ (length v + 2) ∷ v) (26 ∷ (length v + 8) ∷ 0 ∷ 0 ∷ 40 ∷ 175 ∷ (n - 256) ∷ (length v + 2) ∷ v)) ≡ cond b 2 8 + length v
+    go true = omega arith
+    go false = omega arith
 
 -- ---- A QoS profile
 

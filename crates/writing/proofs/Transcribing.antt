@@ -8,22 +8,21 @@ use lib.ListN.{length, take, drop, length-append, length-take}
 use Rattle.meaning.specs.Octets.{Octets, numberOf}
 use Rattle.meaning.proofs.Numbers.{number-fits}
 use Rattle.meaning.proofs.Octets.{octets-take, octets-drop}
-use Rattle.meaning.specs.Framing.{Walk, next, attributes, headLength}
+use Rattle.meaning.specs.Framing.{Walk, next, attributes}
 use Rattle.meaning.specs.Refusals.{none, refusal, fault}
 use Rattle.meaning.specs.Sheet.{attributeOctets, areaOf, itemsIn, areaIn, refused}
 use Rattle.area.specs.declared.Refusal.{Refusal}
-use Rattle.octets.specs.Parts.{partOf, laidAt, Begun}
-use Rattle.octets.proofs.Begun.{begun-as}
+use Rattle.octets.specs.Parts.{partOf}
 use Rattle.item.specs.declared.Headed.{Headed}
 use Rattle.item.specs.declared.Headed.the-variants.{Item, Refused}
 use Rattle.item.specs.Stands.{standsAs}
 use Rattle.item.specs.Answers.{enteredAt, headedAt}
 use Rattle.item.proofs.Entering.{a-refusal}
 use Rattle.writing.specs.declared.Judged.the-variants.{Items, Broken}
-use Rattle.writing.specs.Attributes.{valueLength, valueAs, attributeHead, attributeFront, lengthsAt, Valued}
-use Rattle.writing.specs.Answers.{judgedOf, Transcribed}
-use Rattle.writing.proofs.Entries.{Entry, attribute-parts, attribute-long, stored-here, no-entry, entry-here}
-use Rattle.writing.proofs.Putting.{head-stands}
+use Rattle.writing.specs.Attributes.{valueAs, Attributed}
+use Rattle.writing.specs.Answers.{judgedRefused, judgedOf, Transcribed}
+use Rattle.writing.proofs.Putting.{head-two, attribute-long}
+use Rattle.writing.proofs.Entries.{Entry, stored-here, no-entry, entry-here}
 use Rattle.writing.proofs.Walking.{itemsAt, items-start, items-enter, items-refuse, items-end, items-remain}
 
 -- The loop stands at a place with so many items left. The attributes before it have so many octets, and are what the buffer begins with
@@ -64,7 +63,7 @@ transcribing-none l out left o e =
     }
 
 -- a refusal of the first item that is left
-broken-here : (l out : List ℕ) (left place written k : ℕ) → Transcribing l out left place written → 0 < left → enteredAt l place ≡ refused k → Broken (record { number = k; second = place }) ≡ judgedOf (itemsIn l)
+broken-here : (l out : List ℕ) (left place written k : ℕ) → Transcribing l out left place written → 0 < left → enteredAt l place ≡ refused k → judgedRefused k place ≡ judgedOf (itemsIn l)
 unfolding judgedOf fault
 broken-here l out left place written k j some e =
     let f : fault (itemsIn l) ≡ refusal k place = j .faults ∙ ap fault (items-refuse l left place k some e) in
@@ -79,59 +78,48 @@ module _ (l d : List ℕ) (left place written : ℕ) (j : Transcribing l d left 
   pub transcribing-refused : (out : List ℕ) (x : Refusal) → r ≡ Refused x → Transcribed l (Broken x) out
   transcribing-refused out x q =
       let a = a-refusal l place o r says x q in
-      broke l out x (ap (λ (p : ℕ). Broken (record { number = x .number; second = p })) (a .1) ∙ broken-here l d left place written (x .number) j some (a .0))
+      broke l out x (ap (judgedRefused (x .number)) (a .1) ∙ broken-here l d left place written (x .number) j some (a .0))
 
-  -- an item, and what the writer of its value answered
-  module _ (n f c behind : ℕ) (q : r ≡ Item n f c behind) (at put : ℕ) (front first : List ℕ) (v : Valued (at + headLength n) n f c (stored-here l place o r says n f c behind q) front put first) where
+  -- an item, and what the writer of its attribute answered
+  module _ (n f c behind : ℕ) (q : r ≡ Item n f c behind) (at put : ℕ) (out : List ℕ) (v : Attributed at n f c (stored-here l place o r says n f c behind q) d put out) where
     -- the octets that it stores
     abbrev st : List ℕ
     st = stored-here l place o r says n f c behind q
 
-    entry : standsAs n f c st ≡ true → Entry l place n (valueAs n f c st) (valueLength f c) behind
-    entry = entry-here l place o r says n f c behind q
+    -- and the attribute that it gives
+    abbrev attribute : List ℕ
+    attribute = attributeOctets n (valueAs n f c st)
 
-    pub transcribing-23 : put ≡ 256 → (out : List ℕ) → Transcribed l (Broken (record { number = 23; second = place })) out
-    transcribing-23 e out = broke l out _ (broken-here l d left place written 23 j some (no-entry l place o r says n f c behind q (go (standsAs n f c st) refl)))
+    pub transcribing-23 : put ≡ 0 → Transcribed l (judgedRefused 23 place) out
+    transcribing-23 e = broke l out _ (broken-here l d left place written 23 j some (no-entry l place o r says n f c behind q (go (standsAs n f c st) refl)))
       where
         go : (b : Bool) → standsAs n f c st ≡ b → b ≡ false
         go false t = refl
-        go true t = absurd (let k : put ≡ valueLength f c = v .says ∙ rw t in omega (arith, entry t .short, e))
+        go true t = absurd (let k : put ≡ length attribute = v .says ∙ rw t in omega (arith, attribute-long n (valueAs n f c st), head-two n))
 
     -- the item stands
-    pub stands : (put ≡ 256 → ⊥) → standsAs n f c st ≡ true
+    stands : (put ≡ 0 → ⊥) → standsAs n f c st ≡ true
     stands h = go (standsAs n f c st) refl
       where
         go : (b : Bool) → standsAs n f c st ≡ b → b ≡ true
         go true t = refl
         go false t = absurd (h (v .says ∙ rw t))
 
-    module _ (h : put ≡ 256 → ⊥) where
-      -- what is known of its attribute
-      abbrev e : Entry l place n (valueAs n f c st) (valueLength f c) behind
-      e = entry (stands h)
+    module _ (h : put ≡ 0 → ⊥) where
+      -- what is known of it
+      abbrev e : Entry l place n (valueAs n f c st) behind
+      e = entry-here l place o r says n f c behind q (stands h)
 
-      put-is : put ≡ valueLength f c
+      put-is : put ≡ length attribute
       put-is = v .says ∙ rw (stands h)
 
-      pub put-short : headLength n + put < 256
+      pub put-short : put < 256
       put-short = omega (arith, e .short, put-is)
 
-      abbrev attribute : List ℕ
-      attribute = attributeOctets n (valueAs n f c st)
-
-      size : length attribute ≡ headLength n + put
-      size = attribute-long n (valueAs n f c st) ∙ omega (arith, e .value-long, put-is)
-
-      stands-here : (out : List ℕ) → at + headLength n ≤ length d → front ≡ laidAt at (attributeFront n) d → out ≡ lengthsAt at (headLength n) put first → Begun at attribute d out
-      stands-here out room g p =
-          begun-as at (attributeHead n put ++ valueAs n f c st) attribute d out
-          (attribute-parts n (valueAs n f c st) ∙ ap (λ (k : ℕ). attributeHead n k ++ valueAs n f c st) (e .value-long ∙ sym put-is))
-          (head-stands n put at (valueAs n f c st) d front first out room g (v .is (stands h)) p)
-
-      pub transcribing-more : (out : List ℕ) → 263 ≤ length d → at ≡ min written (length d - 263) → front ≡ laidAt at (attributeFront n) d → out ≡ lengthsAt at (headLength n) put first → Transcribing l out (left - 1) behind (written + (headLength n + put))
+      pub transcribing-more : 263 ≤ length d → at ≡ min written (length d - 263) → Transcribing l out (left - 1) behind (written + put)
       unfolding fault attributes areaOf
-      transcribing-more out room place-is g p =
-          let b = stands-here out (omega (arith, put-short)) g p in
+      transcribing-more room place-is =
+          let b = v .is (stands h) in
           let w : itemsAt l left place ≡ next (record { place = place; number = n; value = valueAs n f c st }) (itemsAt l (left - 1) behind) =
           items-enter l left place n (valueAs n f c st) (e .size) some (e .entered-is)
           ∙ ap (λ (b : ℕ). next (record { place = place; number = n; value = valueAs n f c st }) (itemsAt l (left - 1) b)) (sym (e .behind-is)) in
@@ -141,18 +129,18 @@ module _ (l d : List ℕ) (left place written : ℕ) (j : Transcribing l d left 
                 j .whole ∙ ap (λ (w : Walk). j .gone ++ areaOf (attributes w)) w
                 ∙ sym (append-assoc (j .gone) attribute (areaOf (attributes (itemsAt l (left - 1) behind))));
             faults = j .faults ∙ ap fault w;
-            long = length-append (j .gone) attribute ∙ omega (arith, j .long, size);
+            long = length-append (j .gone) attribute ∙ omega (arith, j .long, put-is);
             few = omega (arith, put-short, j .few);
             held = λ fits.
                 let here : at ≡ written = omega (arith, b .kept) in
-                let much : written + (headLength n + put) ≡ at + length attribute = omega (arith, size) in
+                let much : written + put ≡ at + length attribute = omega (arith, put-is) in
                 ap (λ (k : ℕ). take k out) much ∙ b .is
                 ∙ ap (λ (g : List ℕ). g ++ attribute) (ap (λ (k : ℕ). take k d) here ∙ j .held (omega (arith, b .kept)));
           }
 
 -- no item is left
 module _ (l out : List ℕ) (left place written : ℕ) (j : Transcribing l out left place written) (none-left : left ≡ 0) where
-  pub transcribing-remains : place < length l → Transcribed l (Broken (record { number = 22; second = place })) out
+  pub transcribing-remains : place < length l → Transcribed l (judgedRefused 22 place) out
   unfolding judgedOf fault
   transcribing-remains h =
       let f : fault (itemsIn l) ≡ refusal 22 place = j .faults ∙ ap fault (items-remain l left place none-left h) in

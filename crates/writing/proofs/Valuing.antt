@@ -5,26 +5,49 @@ use mathlib.Core.Bool.{Bool, true, false, cond, not, _&&_, _||_, and-false}
 use mathlib.Core.List.{List, [], _∷_}
 use Prim.Native.Nat.{ℕ, _+_, _*_, _/_, _%_, _<_, _≤_}
 use native.Mathlib.Omega.{arith}
-use lib.Dec.{eqb, ltb, eqb→eq}
-use borrow.Author.Tests.{lt-leb, eq-eqb, ne-eqb, not-true, not-false, ltb-false}
-use lib.ListN.{length, getD, set}
+use lib.Dec.{T, eqb, eqb→eq}
+use borrow.Author.Tests.{eq-eqb, ne-eqb, not-true, not-false}
+use lib.ListN.{length, take, getD, set}
+use lib.Seq.{length-take-le}
 use Rattle.meaning.specs.Octets.{Octets, digitText, text, unpack, packedLength}
-use Rattle.meaning.specs.Shapes.{qos, shapeOf, plainShape, gppShape}
-use Rattle.meaning.specs.Sheet.{formOf, storedLength}
+use Rattle.meaning.specs.Shapes.{Shape, qos, shapeOf, meets}
+use Rattle.meaning.specs.Sheet.{formOf, valueOf}
 use Rattle.meaning.proofs.Tests.{parts, passes, not-both}
-use Rattle.octets.specs.Parts.{laidAt, Begun}
+use Rattle.meaning.proofs.Packing.{unpack-length}
+use Rattle.octets.specs.Parts.{partOf, laidAt, Begun}
 use Rattle.octets.specs.DigitStrings.{packedDigits, decimals}
 use Rattle.octets.proofs.Parts.{part-four, part-rest}
 use Rattle.octets.proofs.Overs.{Pasted, pasted-more, pasted-all, each-laid}
-use Rattle.octets.proofs.Begun.{begun-laid, begun-as}
+use Rattle.octets.proofs.Begun.{begun-laid, begun-as, begun-short}
 use Rattle.octets.proofs.Unpacking.{decimals-length, packed-decimals, high-at, low-at}
 use Rattle.shape.specs.Codes.{codeOf, shapeBy}
-use Rattle.shape.proofs.Codes.{Past}
+use Rattle.shape.proofs.Codes.{Past, every-code}
 use Rattle.item.specs.Stands.{standsAs, takesDigits, raw, held, shaped}
+use Rattle.item.proofs.Texts.{text-length, whole-length}
 use Rattle.item.proofs.Held.{number-held, address-held, hexadecimal-held}
-use Rattle.item.proofs.Shaping.{has, forms, one-number, shaped-alone, shaped-never, digits-shaped}
-use Rattle.writing.specs.Attributes.{valueLength, profileText, valueAs, Digited, Foured, Valued}
-use Rattle.writing.proofs.Values.{profile, qos-counted, shown}
+use Rattle.item.proofs.Shaping.{only, forms, shaped-alone, digits-shaped, raw-by-code, shaped-by-code}
+use Rattle.writing.specs.Attributes.{profileText, valueAs, Digited, Laying}
+use Rattle.writing.proofs.Values.{raw-short, profile, profile-long, qos-counted}
+
+-- ---- Any value
+
+module _ (at : ℕ) (stands : Bool) (value d out : List ℕ) where
+  -- it does not stand
+  pub laying-none : stands ≡ false → Laying at stands value d 256 out
+  laying-none e = record { says = rw e; is = λ q. not-both (sym (sym e ∙ q)) }
+
+  module _ (e : stands ≡ true) (k : ℕ) (long : k ≡ length value) where
+    -- it stands and is there
+    laying-begun : Begun at value d out → Laying at stands value d k out
+    laying-begun b = record { says = long ∙ rw e; is = λ q. b }
+
+    -- it was laid there
+    laying-laid : at + k ≤ length d → out ≡ laidAt at value d → Laying at stands value d k out
+    laying-laid room h = laying-begun (begun-laid at value d out (omega arith) h)
+
+-- a test and a value, by other names
+laying-as : (at : ℕ) (a b : Bool) (s t d : List ℕ) (k : ℕ) (out : List ℕ) → a ≡ b → s ≡ t → Laying at a s d k out → Laying at b t d k out
+laying-as at a b s t d k out p q u = subst (λ (x : Bool). Laying at x t d k out) p (subst (λ (r : List ℕ). Laying at a r d k out) q u)
 
 -- ---- Digits
 
@@ -48,153 +71,130 @@ module _ (at c : ℕ) (st d out : List ℕ) where
   pub digits-laid : (i : ℕ) → Pasted at (decimals (unpack c st)) d out i → c ≤ i → true ≡ packedDigits c st → Digited at c st d true out
   digits-laid i w h e = record { says = e; is = λ q. begun-laid at (decimals (unpack c st)) d out (w .room) (pasted-all at (decimals (unpack c st)) d out i w (omega (arith, decimals-length c st))) }
 
+-- the digits of a shape
+module _ (at : ℕ) (s : Shape) (c : ℕ) (st d : List ℕ) (long : length st ≡ packedLength c) (o : Octets st) where
+  pub digits-not-taken : (b : Bool) → b ≡ takesDigits s c → b ≡ false → (out : List ℕ) → Laying at (shaped s 4 c st) (text (unpack c st)) d 256 out
+  digits-not-taken b t e out = laying-none at (shaped s 4 c st) (text (unpack c st)) d out (digits-shaped s c st long o ∙ ap (λ (a : Bool). a && packedDigits c st) (sym t ∙ e))
+
+  module _ (b : Bool) (t : b ≡ takesDigits s c) (taken : b ≡ true) (said : Bool) (out : List ℕ) (u : Digited at c st d said out) where
+    stands-by : shaped s 4 c st ≡ said
+    stands-by = digits-shaped s c st long o ∙ ap (λ (a : Bool). a && packedDigits c st) (sym t ∙ taken) ∙ sym (u .says)
+
+    pub digits-not-packed : said ≡ false → Laying at (shaped s 4 c st) (text (unpack c st)) d 256 out
+    digits-not-packed e = laying-none at (shaped s 4 c st) (text (unpack c st)) d out (stands-by ∙ e)
+
+    pub digits-packed : said ≡ true → (k : ℕ) → k ≡ c → Laying at (shaped s 4 c st) (text (unpack c st)) d k out
+    digits-packed e k p =
+        laying-begun at (shaped s 4 c st) (text (unpack c st)) d out (stands-by ∙ e) k (p ∙ sym (text-length (unpack c st) ∙ unpack-length c st long))
+        (begun-as at (decimals (unpack c st)) (text (unpack c st)) d out (sym (packed-decimals c st (sym (u .says) ∙ e))) (u .is e))
+
 -- ---- Four octets
 
-module _ (at : ℕ) (own : Bool) (st d : List ℕ) where
-  pub fours-none : own && eqb (length st) 4 ≡ false → Foured at own st d 256 d
-  fours-none e = record { says = rw e; is = λ q. not-both (sym (sym e ∙ q)) }
+pub fours-laid : (at : ℕ) (own : Bool) (st d out : List ℕ) → own ≡ true → length st ≡ 4 → at + 4 ≤ length d → out ≡ laidAt at (getD st 0 0 ∷ getD st 1 0 ∷ getD st 2 0 ∷ getD st 3 0 ∷ []) d → Laying at (own && eqb (length st) 4) st d 4 out
+fours-laid at own st d out e n room h =
+    let four : getD st 0 0 ∷ getD st 1 0 ∷ getD st 2 0 ∷ getD st 3 0 ∷ [] ≡ st = part-four st 0 _ _ _ _ (omega arith) refl refl refl refl ∙ part-rest st 0 4 (omega arith) in
+    laying-laid at (own && eqb (length st) 4) st d out (rw (e, n)) 4 (sym n) room (h ∙ ap (λ (s : List ℕ). laidAt at s d) four)
 
-  pub fours-laid : (out : List ℕ) → own ≡ true → length st ≡ 4 → at + 4 ≤ length d → out ≡ laidAt at (getD st 0 0 ∷ getD st 1 0 ∷ getD st 2 0 ∷ getD st 3 0 ∷ []) d → Foured at own st d 4 out
-  fours-laid out e n room h =
-      let four : getD st 0 0 ∷ getD st 1 0 ∷ getD st 2 0 ∷ getD st 3 0 ∷ [] ≡ st = part-four st 0 _ _ _ _ (omega arith) refl refl refl refl ∙ part-rest st 0 4 (omega arith) in
-      record {
-        says = rw (e, n);
-        is = λ q. begun-laid at st d out (omega arith) (h ∙ ap (λ (s : List ℕ). laidAt at s d) four);
-      }
+-- ---- A QoS profile
 
--- ---- A value
+module _ (at code : ℕ) (st d : List ℕ) where
+  profile-stands : eqb code 60 && held qos 0 st ≡ shaped (shapeBy code) 6 (length st) st
+  unfolding formOf codeOf shapeBy
+  profile-stands = shaped-alone code 6 (length st) st 60 (held qos 0 st) refl tt (qos-counted (length st) st)
 
-module _ (at n f c : ℕ) (st d out : List ℕ) where
-  -- no readable attribute gives the item
-  valued-none : standsAs n f c st ≡ false → Valued at n f c st d 256 out
-  valued-none e = record { says = rw e; is = λ q. not-both (sym (sym e ∙ q)) }
+  pub profile-other : (code ≡ 60 → ⊥) → (out : List ℕ) → Laying at (shaped (shapeBy code) 6 (length st) st) (profileText st) d 256 out
+  profile-other h out = laying-none at (shaped (shapeBy code) 6 (length st) st) (profileText st) d out (sym profile-stands ∙ rw (ne-eqb code 60 h))
 
-  -- one does, and the value is there
-  valued-begun : standsAs n f c st ≡ true → (k : ℕ) → k ≡ valueLength f c → Begun at (valueAs n f c st) d out → Valued at n f c st d k out
-  valued-begun e k p b = record { says = p ∙ rw e; is = λ q. b }
+  pub profile-none : held qos 0 st ≡ false → (out : List ℕ) → Laying at (shaped (shapeBy code) 6 (length st) st) (profileText st) d 256 out
+  profile-none e out = laying-none at (shaped (shapeBy code) 6 (length st) st) (profileText st) d out (sym profile-stands ∙ rw e (and-false (eqb code 60)))
 
-  -- it was laid there
-  valued-laid : standsAs n f c st ≡ true → Octets st → length st ≡ storedLength f c → (k : ℕ) → k ≡ valueLength f c → at + k ≤ length d → (s : List ℕ) → valueAs n f c st ≡ s → out ≡ laidAt at s d → Valued at n f c st d k out
-  valued-laid e o l k p room s v h =
-      let long = shown n f c st o l e .value-long in
-      valued-begun e k p (begun-laid at (valueAs n f c st) d out (omega arith) (h ∙ ap (λ (s : List ℕ). laidAt at s d) (sym v)))
+  pub profile-put : Octets st → code ≡ 60 → held qos 0 st ≡ true → (out : List ℕ) → at + 255 ≤ length d → out ≡ laidAt at (profileText st) d → Laying at (shaped (shapeBy code) 6 (length st) st) (profileText st) d (1 + 2 * length st) out
+  profile-put o p e out room h =
+      let q = profile st o e in
+      laying-laid at (shaped (shapeBy code) 6 (length st) st) (profileText st) d out (sym profile-stands ∙ rw (eq-eqb code 60 p, e)) (1 + 2 * length st) (sym (profile-long st (q .some))) (omega (arith, q .few)) h
 
--- the octets that are stored, counted
-pub valued-count : (at n f c : ℕ) (st d : List ℕ) (k : ℕ) (out : List ℕ) → length st ≡ c → Valued at n f (length st) st d k out → Valued at n f c st d k out
-valued-count at n f c st d k out e v = subst (λ (m : ℕ). Valued at n f m st d k out) e v
+-- ---- A value as it stands
 
--- a number or an address
-module _ (at n c : ℕ) (own : Bool) (st d : List ℕ) (said : ℕ) (out : List ℕ) (long : length st ≡ c) where
-  fours-valued : (f : ℕ) → valueAs n f c st ≡ st → valueLength f c ≡ c → own && eqb (length st) 4 ≡ standsAs n f c st → Foured at own st d said out → Valued at n f c st d said out
-  fours-valued f v k e u = go (own && eqb (length st) 4) refl
-    where
-      go : (b : Bool) → own && eqb (length st) 4 ≡ b → Valued at n f c st d said out
-      go false t = record { says = u .says ∙ rw (t, sym e ∙ t); is = λ q. not-both (sym (sym (sym e ∙ t) ∙ q)) }
-      go true t =
-          let four : length st ≡ 4 = eqb→eq (length st) 4 (parts own (eqb (length st) 4) (passes _ t) .1) in
-          valued-begun at n f c st d out (sym e ∙ t) said (u .says ∙ rw t (omega arith)) (begun-as at st (valueAs n f c st) d out v (u .is t))
+module _ (at n code f k : ℕ) (rest d out : List ℕ) (within : k ≤ length rest) (room : at + 255 ≤ length d) (stands : raw n code f (take k rest) ≡ true) where
+  size : k ≡ length (take k rest)
+  size = sym (length-take-le k rest within)
 
-  pub number-valued : own ≡ has 2 (shapeOf n) → Foured at own st d said out → Valued at n 2 c st d said out
-  unfolding valueAs valueLength standsAs formOf codeOf shapeBy
-  number-valued e u = fours-valued 2 refl refl (rw long (shaped-alone n 2 c st 20 own (eqb c 4) tt tt e (sym (number-held c st long)))) u
+  -- with what stands behind it
+  pub raw-sixteen : k ≤ 16 → out ≡ laidAt at (partOf rest 0 16) d → Laying at (raw n code f (take k rest)) (take k rest) d k out
+  raw-sixteen few h = laying-begun at (raw n code f (take k rest)) (take k rest) d out stands k size (begun-short at k rest d out few (omega arith) h)
 
-  pub address-valued : own ≡ has 3 (shapeOf n) → Foured at own st d said out → Valued at n 3 c st d said out
-  unfolding valueAs valueLength standsAs formOf codeOf shapeBy
-  address-valued e u = fours-valued 3 refl refl (rw long (shaped-alone n 3 c st 30 own (eqb c 4) tt tt e (sym (address-held c st long)))) u
+  -- alone
+  pub raw-alone : out ≡ laidAt at (take k rest) d → Laying at (raw n code f (take k rest)) (take k rest) d k out
+  raw-alone h = laying-laid at (raw n code f (take k rest)) (take k rest) d out stands k size (omega (arith, raw-short n code f (take k rest) stands, size)) h
 
--- digits
-module _ (at n c : ℕ) (st d : List ℕ) (long : length st ≡ packedLength c) (o : Octets st) where
-  digits-stand : standsAs n 4 c st ≡ takesDigits (shapeOf n) c && packedDigits c st
-  unfolding standsAs
-  digits-stand = digits-shaped n c st long o
+-- ---- By the form
 
-  pub digits-not-taken : (b : Bool) → b ≡ takesDigits (shapeOf n) c → b ≡ false → (out : List ℕ) → Valued at n 4 c st d 256 out
-  digits-not-taken b t e out = valued-none at n 4 c st d out (digits-stand ∙ ap (λ (a : Bool). a && packedDigits c st) (sym t ∙ e))
+-- an octet is stored in form 7
+pub octet-some : (code c : ℕ) (st : List ℕ) → shaped (shapeBy code) 7 c st ≡ true → 1 ≤ length st
+unfolding shaped held formOf meets valueOf text
+octet-some code c [] e = absurd (rw e at (every-code (λ k s. not (shaped s 7 c [])) code tt tt))
+octet-some code c (x ∷ st) e = omega arith
 
-  module _ (b : Bool) (t : b ≡ takesDigits (shapeOf n) c) (taken : b ≡ true) (said : Bool) (out : List ℕ) (u : Digited at c st d said out) where
-    stands-by : standsAs n 4 c st ≡ said
-    stands-by = digits-stand ∙ ap (λ (a : Bool). a && packedDigits c st) (sym t ∙ taken) ∙ sym (u .says)
-
-    pub digits-not-packed : said ≡ false → Valued at n 4 c st d 256 out
-    digits-not-packed e = valued-none at n 4 c st d out (stands-by ∙ e)
-
-    pub digits-valued : said ≡ true → (k : ℕ) → k ≡ c → Valued at n 4 c st d k out
-    unfolding valueAs valueLength
-    digits-valued e k p = valued-begun at n 4 c st d out (stands-by ∙ e) k p (begun-as at (decimals (unpack c st)) (text (unpack c st)) d out (sym (packed-decimals c st (sym (u .says) ∙ e))) (u .is e))
-
--- the other forms, whose stored octets are counted
 or-not : (a b : Bool) → not a || not b ≡ not (a && b)
 or-not true b = refl
 or-not false b = refl
 
-module _ (at n c : ℕ) (st d : List ℕ) (long : length st ≡ c) (o : Octets st) where
-  text-stands : eqb n 44 && eqb (length st) 8 ≡ standsAs n 5 c st
-  unfolding standsAs shapeOf plainShape gppShape formOf codeOf shapeBy
-  text-stands = rw long (shaped-alone n 5 c st 50 (eqb n 44) (eqb c 8) tt tt (one-number (has 5) 44 tt tt tt n) (sym (hexadecimal-held c st long o)))
+-- the code is that of the shape of the item's number
+module _ (at n code : ℕ) (is : code ≡ codeOf (shapeOf n)) (c : ℕ) (st d : List ℕ) where
+  -- digits
+  pub digits-valued : (said : ℕ) (out : List ℕ) → Laying at (shaped (shapeBy code) 4 c st) (text (unpack c st)) d said out → Laying at (standsAs n 4 c st) (valueAs n 4 c st) d said out
+  unfolding valueAs
+  digits-valued said out u = laying-as at _ _ _ _ d said out (shaped-by-code n code is 4 c st (omega arith)) refl u
 
-  pub text-none : not (eqb n 44) || not (eqb (length st) 8) ≡ true → (out : List ℕ) → Valued at n 5 c st d 256 out
-  text-none e out = valued-none at n 5 c st d out (sym text-stands ∙ not-true _ (sym (or-not (eqb n 44) (eqb (length st) 8)) ∙ e))
+  -- a value as it stands, and an unknown form
+  pub raw-valued : (f : ℕ) → Past (Unit {0}) f forms → (said : ℕ) (out : List ℕ) → Laying at (raw n code f st) st d said out → Laying at (standsAs n f c st) (valueAs n f c st) d said out
+  unfolding valueAs
+  raw-valued f other said out u =
+      let value-is : st ≡ valueAs n f c st = rw (ne-eqb f 4 (other .0 .0 .0 .1), ne-eqb f 5 (other .0 .0 .1), ne-eqb f 6 (other .0 .1), ne-eqb f 7 (other .1)) in
+      laying-as at (raw n code f st) (standsAs n f c st) st (valueAs n f c st) d said out (raw-by-code n code is f c st other) value-is u
 
-  pub text-valued : not (eqb n 44) || not (eqb (length st) 8) ≡ false → (out : List ℕ) → at + 16 ≤ length d → out ≡ laidAt at (text (unpack 16 st)) d → Valued at n 5 c st d 16 out
-  unfolding valueAs valueLength
-  text-valued e out room h =
-      let b : eqb n 44 && eqb (length st) 8 ≡ true = not-false _ (sym (or-not (eqb n 44) (eqb (length st) 8)) ∙ e) in
-      let eight : length st ≡ 8 = eqb→eq (length st) 8 (parts (eqb n 44) (eqb (length st) 8) (passes _ b) .1) in
-      valued-laid at n 5 c st d out (sym text-stands ∙ b) o long 16 (omega arith) room (text (unpack 16 st)) (rw eight) h
+  -- a form that one code has
+  alone-stands : (f own : ℕ) (t : Bool) → 2 ≤ f → formOf (shapeBy own) ≡ f → T (only f (own ∷ [])) → t ≡ held (shapeBy own) c st → eqb code own && t ≡ standsAs n f c st
+  alone-stands f own t h e a p = shaped-alone code f c st own t e a p ∙ shaped-by-code n code is f c st h
 
-  profile-stands : eqb n 261 && held qos 0 st ≡ standsAs n 6 c st
-  unfolding standsAs shapeOf plainShape gppShape formOf codeOf shapeBy
-  profile-stands = shaped-alone n 6 c st 60 (eqb n 261) (held qos 0 st) tt tt (one-number (has 6) 261 tt tt tt n) (qos-counted c st)
+  -- the other forms, whose stored octets are counted
+  module _ (long : length st ≡ c) where
+    pub number-valued : (said : ℕ) (out : List ℕ) → Laying at (eqb code 20 && eqb (length st) 4) st d said out → Laying at (standsAs n 2 c st) (valueAs n 2 c st) d said out
+    unfolding valueAs formOf codeOf shapeBy
+    number-valued said out u = laying-as at _ _ _ _ d said out (rw long (alone-stands 2 20 (eqb c 4) (omega arith) refl tt (sym (number-held c st long)))) refl u
 
-  pub profile-not-261 : (n ≡ 261 → ⊥) → (out : List ℕ) → Valued at n 6 c st d 256 out
-  profile-not-261 h out = valued-none at n 6 c st d out (sym profile-stands ∙ rw (ne-eqb n 261 h))
+    pub address-valued : (said : ℕ) (out : List ℕ) → Laying at (eqb code 30 && eqb (length st) 4) st d said out → Laying at (standsAs n 3 c st) (valueAs n 3 c st) d said out
+    unfolding valueAs formOf codeOf shapeBy
+    address-valued said out u = laying-as at _ _ _ _ d said out (rw long (alone-stands 3 30 (eqb c 4) (omega arith) refl tt (sym (address-held c st long)))) refl u
 
-  pub profile-none : held qos 0 st ≡ false → (out : List ℕ) → Valued at n 6 c st d 256 out
-  profile-none e out = valued-none at n 6 c st d out (sym profile-stands ∙ rw e (and-false (eqb n 261)))
+    module _ (o : Octets st) where
+      text-stands : eqb code 50 && eqb c 8 ≡ standsAs n 5 c st
+      unfolding formOf codeOf shapeBy
+      text-stands = alone-stands 5 50 (eqb c 8) (omega arith) refl tt (sym (hexadecimal-held c st long o))
 
-  pub profile-valued : n ≡ 261 → held qos 0 st ≡ true → (out : List ℕ) → at + 255 ≤ length d → out ≡ laidAt at (profileText st) d → Valued at n 6 c st d (1 + 2 * length st) out
-  unfolding valueAs valueLength
-  profile-valued p e out room h =
-      let few : length st ≤ 12 = profile st o e .few in
-      valued-laid at n 6 c st d out (sym profile-stands ∙ rw (eq-eqb n 261 p, e)) o long (1 + 2 * length st) (rw long) (omega arith) (profileText st) refl h
+      pub text-none : not (eqb code 50) || not (eqb c 8) ≡ true → (out : List ℕ) → Laying at (standsAs n 5 c st) (valueAs n 5 c st) d 256 out
+      text-none e out = laying-none at (standsAs n 5 c st) (valueAs n 5 c st) d out (sym text-stands ∙ not-true _ (sym (or-not (eqb code 50) (eqb c 8)) ∙ e))
 
-  octet-stands : shaped n 7 (length st) st ≡ standsAs n 7 c st
-  unfolding standsAs
-  octet-stands = rw long
+      pub text-valued : not (eqb code 50) || not (eqb c 8) ≡ false → (out : List ℕ) → at + 16 ≤ length d → out ≡ laidAt at (text (unpack 16 st)) d → Laying at (standsAs n 5 c st) (valueAs n 5 c st) d 16 out
+      unfolding valueAs
+      text-valued e out room h =
+          let b : eqb code 50 && eqb c 8 ≡ true = not-false _ (sym (or-not (eqb code 50) (eqb c 8)) ∙ e) in
+          let eight : length st ≡ 8 = long ∙ eqb→eq c 8 (parts (eqb code 50) (eqb c 8) (passes _ b) .1) in
+          laying-laid at (standsAs n 5 c st) (valueAs n 5 c st) d out (sym text-stands ∙ b) 16 (omega (arith, whole-length st)) room (h ∙ rw eight)
 
-  pub octet-none : shaped n 7 (length st) st ≡ false → (out : List ℕ) → Valued at n 7 c st d 256 out
-  octet-none e out = valued-none at n 7 c st d out (sym octet-stands ∙ e)
+    -- a form that the shape tells
+    counted-stands : (f : ℕ) → 2 ≤ f → shaped (shapeBy code) f (length st) st ≡ standsAs n f c st
+    counted-stands f h = rw long (shaped-by-code n code is f c st h)
 
-  -- one octet
-  pub octet-one : shaped n 7 (length st) st ≡ true → length st ≡ 1
-  unfolding valueAs valueLength
-  octet-one e = long ∙ sym (shown n 7 c st o long (sym octet-stands ∙ e) .value-long)
+    pub profile-valued : (said : ℕ) (out : List ℕ) → Laying at (shaped (shapeBy code) 6 (length st) st) (profileText st) d said out → Laying at (standsAs n 6 c st) (valueAs n 6 c st) d said out
+    unfolding valueAs
+    profile-valued said out u = laying-as at _ _ _ _ d said out (counted-stands 6 (omega arith)) refl u
 
-  pub octet-valued : shaped n 7 (length st) st ≡ true → (x : ℕ) → x ≡ cond (eqb (codeOf (shapeOf n)) 71) (getD st 0 0) (digitText (getD st 0 0 % 16)) → at + 1 ≤ length d → Valued at n 7 c st d 1 (set d at x)
-  unfolding valueAs valueLength
-  octet-valued e x v room = valued-laid at n 7 c st d (set d at x) (sym octet-stands ∙ e) o long 1 (sym (octet-one e) ∙ long) room (x ∷ []) (rw v) (each-laid at (x ∷ []) d room 0 refl)
+    pub octet-none : shaped (shapeBy code) 7 (length st) st ≡ false → (out : List ℕ) → Laying at (standsAs n 7 c st) (valueAs n 7 c st) d 256 out
+    octet-none e out = laying-none at (standsAs n 7 c st) (valueAs n 7 c st) d out (sym (counted-stands 7 (omega arith)) ∙ e)
 
--- a value as it stands, and an unknown form
-module _ (at n f c : ℕ) (st d : List ℕ) (long : length st ≡ storedLength f c) (o : Octets st) (other : Past (Unit {0}) f forms) where
-  not-4 : f ≡ 4 → ⊥
-  not-4 = other .0 .0 .0 .1
-
-  raw-stands : raw n f st ≡ standsAs n f c st
-  unfolding standsAs raw
-  raw-stands = go (ltb f 2) refl
-    where
-      go : (b : Bool) → ltb f 2 ≡ b → raw n f st ≡ cond b (raw n f st) (shaped n f c st)
-      go true e = refl
-      go false e = rw (lt-leb f 1 (ltb-false f 2 e)) (shaped-never n f c st other)
-
-  pub raw-none : raw n f st ≡ false → (out : List ℕ) → Valued at n f c st d 256 out
-  raw-none e out = valued-none at n f c st d out (sym raw-stands ∙ e)
-
-  pub raw-valued : raw n f st ≡ true → (out : List ℕ) → at + length st ≤ length d → out ≡ laidAt at st d → Valued at n f c st d (length st) out
-  unfolding valueAs valueLength
-  raw-valued e out room h =
-      let four = ne-eqb f 4 not-4 in
-      let five = ne-eqb f 5 (other .0 .0 .1) in
-      let six = ne-eqb f 6 (other .0 .1) in
-      let seven = ne-eqb f 7 (other .1) in
-      valued-laid at n f c st d out (sym raw-stands ∙ e) o long (length st) (long ∙ rw (four, five, six)) room st (rw (four, five, six, seven)) h
+    pub octet-valued : shaped (shapeBy code) 7 (length st) st ≡ true → (x : ℕ) → x ≡ cond (eqb code 71) (getD st 0 0) (digitText (getD st 0 0 % 16)) → at + 1 ≤ length d → Laying at (standsAs n 7 c st) (valueAs n 7 c st) d 1 (set d at x)
+    unfolding valueAs
+    octet-valued e x v room =
+        laying-laid at (standsAs n 7 c st) (valueAs n 7 c st) d (set d at x) (sym (counted-stands 7 (omega arith)) ∙ e) 1 refl room
+        (rw (sym is, sym v) (each-laid at (x ∷ []) d room 0 refl))

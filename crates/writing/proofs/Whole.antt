@@ -1,10 +1,10 @@
 -- What writing answers: each refusal exactly when its line is the first that applies, or the area. Assumes nothing.
 use mathlib.Core.Path.{_≡_, refl, sym, ap, _∙_}
-use mathlib.Core.Bool.{Bool, true, false, not, _&&_}
+use mathlib.Core.Bool.{Bool, true, false, cond, not, _&&_}
 use mathlib.Core.List.{List}
 use Prim.Native.Nat.{ℕ, _+_, _≤_, _<_}
 use native.Mathlib.Omega.{arith}
-use lib.Dec.{leb, leb→le}
+use lib.Dec.{leb, ltb, leb→le}
 use borrow.Author.Tests.{lt-ltb, le-ltb, not-true, not-false}
 use lib.ListN.{length, take}
 use Rattle.meaning.specs.Octets.{same}
@@ -14,14 +14,15 @@ use Rattle.meaning.specs.Refusals as book
 use Rattle.meaning.specs.Refusals.{none, refusal, fault, sheetRefusal}
 use Rattle.meaning.specs.Sheet.{mark, areaOf, itemsIn, kindIn, flagsIn, areaIn, marked, judged}
 use Rattle.meaning.specs.Answers.{over, after, writeAnswer, areaAnswer}
-use Rattle.meaning.proofs.Tests.{parts, is-true, passes}
+use Rattle.meaning.proofs.Tests.{parts, passes}
 use Rattle.octets.specs.Parts.{laidAt}
 use Rattle.octets.proofs.Overs.{laid-first}
 use Rattle.area.specs.declared.Refusal.{Refusal}
 use Rattle.writing.specs.declared.Judged.{Judged}
 use Rattle.writing.specs.declared.Judged.the-variants.{Items, Broken}
+use Rattle.writing.specs.declared.Writing.{Writing}
 use Rattle.writing.specs.declared.Writing.the-variants.{Area, Refused}
-use Rattle.writing.specs.Answers.{judgedFrom, judgedOf, Accepted, Ready, Transcribed, Wrote}
+use Rattle.writing.specs.Answers.{judgedFrom, judgedOf, Transcribed, Fronted, Handed, Wrote}
 
 -- a marked sheet has its nine octets
 pub marked-nine : (l : List ℕ) → marked l ≡ true → 9 ≤ length l
@@ -35,77 +36,70 @@ both-allowed a b k f p q e = ap (λ (t : Bool). t && areFlags f) (sym p) ∙ ap 
 pub one-not-allowed : (a b : Bool) (k f : ℕ) → a ≡ isKind k → b ≡ areFlags f → not (a && b) ≡ true → isKind k && areFlags f ≡ false
 one-not-allowed a b k f p q e = ap (λ (t : Bool). t && areFlags f) (sym p) ∙ ap (λ (t : Bool). a && t) (sym q) ∙ not-true (a && b) e
 
--- a buffer in which the items of an accepted sheet were laid begins with the area
-pub accepted-held : (l : List ℕ) (n : ℕ) → Accepted l → n ≡ length (areaIn l) → (r : Judged) (buf : List ℕ) → Transcribed l r buf → n + 263 ≤ length buf → take n buf ≡ areaIn l
-unfolding judgedOf areaIn
-accepted-held l n a e r buf t room = t .holds n (t .says ∙ rw (a .sound) (ap Items (sym e))) room
+-- ---- An area that is made
 
--- the area is copied from there
-pub area-copied : (l d buf out : List ℕ) (n : ℕ) → n ≡ length (areaIn l) → n ≤ length d → take n buf ≡ areaIn l → out ≡ laidAt 0 (take n buf) d → out ≡ over (areaIn l) d
-area-copied l d buf out n e room h q = q ∙ ap (λ (s : List ℕ). laidAt 0 s d) h ∙ laid-first (areaIn l) d (omega arith)
+module _ (area d : List ℕ) (kind flags : ℕ) where
+  pub handed-not : length d < length area → Handed area kind flags d (Refused (record { number = 25; second = length area })) d
+  handed-not h = let t = lt-ltb (length d) (length area) h in record { says = rw t; holds = rw t }
+
+  pub handed-over : (out : List ℕ) → length area ≤ length d → out ≡ laidAt 0 area d → Handed area kind flags d (Area (length area) kind flags) out
+  handed-over out h e = let t = le-ltb (length d) (length area) h in record { says = rw t; holds = e ∙ rw t (laid-first area d h) }
+
+-- ---- The answer
+
+-- a sheet to which nothing of 22 and 23 applies, with the octets of its area
+record Sound (l : List ℕ) (n : ℕ) : Type 0 where
+  faultless : fault (itemsIn l) ≡ none
+  long : n ≡ length (areaIn l)
 
 module _ (l d : List ℕ) where
   pub write-20 : marked l ≡ false → Wrote l d (Refused (record { number = 20; second = 0 })) d
   unfolding writeAnswer judged sheetRefusal areaAnswer after
   write-20 m = record { says = rw m; holds = rw m }
 
-  module _ (m : marked l ≡ true) where
-    pub write-21 : isKind (kindIn l) && areFlags (flagsIn l) ≡ false → Wrote l d (Refused (record { number = 21; second = 0 })) d
-    unfolding writeAnswer judged sheetRefusal areaAnswer after
-    write-21 k = record { says = rw (m, k); holds = rw (m, k) }
+  pub write-21 : marked l ≡ true → isKind (kindIn l) && areFlags (flagsIn l) ≡ false → Wrote l d (Refused (record { number = 21; second = 0 })) d
+  unfolding writeAnswer judged sheetRefusal areaAnswer after
+  write-21 m k = record { says = rw (m, k); holds = rw (m, k) }
 
-    module _ (allowed : isKind (kindIn l) && areFlags (flagsIn l) ≡ true) where
-      -- 22 and 23
-      pub write-broken : (r : Judged) (refused : Refusal) → r ≡ judgedOf (itemsIn l) → r ≡ Broken refused → Wrote l d (Refused refused) d
-      unfolding writeAnswer judged sheetRefusal areaAnswer after judgedOf
-      write-broken r refused says q = go (fault (itemsIn l)) refl (sym q ∙ says)
-        where
-          go : (x : book.Refusal) → fault (itemsIn l) ≡ x → Broken refused ≡ judgedFrom x (length (areaOf (attributes (itemsIn l)))) → Wrote l d (Refused refused) d
-          go none p e = absurd (let z : _≡_ {A = ℕ} 0 1 = cc in omega arith)
-          go (refusal n s) p e =
-              let is : refused ≡ record { number = n; second = s } = cc in
-              record { says = rw (m, allowed, p) (ap Refused is); holds = rw (m, allowed, p) }
+  -- what the pass over the items answered
+  module _ (kind flags : ℕ) (f : Fronted l kind flags) (r : Judged) (buf : List ℕ) (t : Transcribed l r buf) where
+    -- 22 and 23
+    pub write-broken : (refused : Refusal) → r ≡ Broken refused → Wrote l d (Refused refused) d
+    unfolding writeAnswer judged sheetRefusal areaAnswer after judgedOf
+    write-broken refused q = go (fault (itemsIn l)) refl (sym q ∙ t .says)
+      where
+        go : (x : book.Refusal) → fault (itemsIn l) ≡ x → Broken refused ≡ judgedFrom x (length (areaOf (attributes (itemsIn l)))) → Wrote l d (Refused refused) d
+        go none p e = absurd (let z : _≡_ {A = ℕ} 0 1 = cc in omega arith)
+        go (refusal n s) p e =
+            let is : refused ≡ record { number = n; second = s } = cc in
+            record { says = rw (f .marked-is, f .allowed, p) (ap Refused is); holds = rw (f .marked-is, f .allowed, p) }
 
-      -- none of them
-      pub items-ready : (r : Judged) (needed : ℕ) → r ≡ judgedOf (itemsIn l) → r ≡ Items needed → Ready l (kindIn l) (flagsIn l) needed
+    -- none of them
+    module _ (n : ℕ) (q : r ≡ Items n) where
+      sound : Sound l n
       unfolding judgedOf areaIn
-      items-ready r needed says q = go (fault (itemsIn l)) refl (sym q ∙ says)
+      sound = go (fault (itemsIn l)) refl (sym q ∙ t .says)
         where
-          go : (x : book.Refusal) → fault (itemsIn l) ≡ x → Items needed ≡ judgedFrom x (length (areaOf (attributes (itemsIn l)))) → Ready l (kindIn l) (flagsIn l) needed
-          go none p e =
-              let b = parts (isKind (kindIn l)) (areFlags (flagsIn l)) (passes _ allowed) in
-              record {
-                accepted = record { marked-is = m; kind-ok = is-true _ (b .0); flags-ok = is-true _ (b .1); sound = p };
-                kind-is = refl;
-                flags-is = refl;
-                long = cc;
-              }
+          go : (x : book.Refusal) → fault (itemsIn l) ≡ x → Items n ≡ judgedFrom x (length (areaOf (attributes (itemsIn l)))) → Sound l n
+          go none p e = record { faultless = p; long = cc }
           go (refusal n s) p e = absurd (let z : _≡_ {A = ℕ} 0 1 = cc in omega arith)
 
-  module _ (kind flags n : ℕ) (r : Ready l kind flags n) where
-    abbrev a : Accepted l
-    a = r .accepted
-
-    abbrev is : n ≡ length (areaIn l)
-    is = r .long
-
-    pub write-24 : 4076 < n → Wrote l d (Refused (record { number = 24; second = n })) d
-    unfolding writeAnswer judged sheetRefusal areaAnswer after
-    write-24 h =
-        let t = lt-ltb 4076 (length (areaIn l)) (omega arith) in
-        record { says = rw (a .marked-is, a .kind-ok, a .flags-ok, a .sound, t, is); holds = rw (a .marked-is, a .kind-ok, a .flags-ok, a .sound, t) }
-
-    module _ (short : n ≤ 4076) where
-      pub write-25 : length d < n → Wrote l d (Refused (record { number = 25; second = n })) d
+      pub write-24 : 4076 < n → Wrote l d (Refused (record { number = 24; second = n })) d
       unfolding writeAnswer judged sheetRefusal areaAnswer after
-      write-25 h =
-          let t = le-ltb 4076 (length (areaIn l)) (omega arith) in
-          let u = lt-ltb (length d) (length (areaIn l)) (omega arith) in
-          record { says = rw (a .marked-is, a .kind-ok, a .flags-ok, a .sound, t, u, is); holds = rw (a .marked-is, a .kind-ok, a .flags-ok, a .sound, t, u) }
+      write-24 h =
+          let u = lt-ltb 4076 (length (areaIn l)) (omega (arith, sound .long)) in
+          record { says = rw (f .marked-is, f .allowed, sound .faultless, u, sound .long); holds = rw (f .marked-is, f .allowed, sound .faultless, u) }
 
-      pub written : (out : List ℕ) → n ≤ length d → out ≡ over (areaIn l) d → Wrote l d (Area n kind flags) out
+      -- 25, or the area
+      pub written : n ≤ 4076 → n + 263 ≤ length buf → (said : Writing) (held : List ℕ) → Handed (take n buf) kind flags d said held → Wrote l d said held
       unfolding writeAnswer judged sheetRefusal areaAnswer after
-      written out h e =
-          let t = le-ltb 4076 (length (areaIn l)) (omega arith) in
-          let u = le-ltb (length d) (length (areaIn l)) (omega arith) in
-          record { says = rw (a .marked-is, a .kind-ok, a .flags-ok, a .sound, t, u, is, r .kind-is, r .flags-is); holds = rw (a .marked-is, a .kind-ok, a .flags-ok, a .sound, t, u) e }
+      written h room said held w =
+          let made : Handed (areaIn l) kind flags d said held = rw (t .holds n q room) at w in
+          go (ltb (length d) (length (areaIn l))) refl (made .says) (made .holds)
+        where
+          u : ltb 4076 (length (areaIn l)) ≡ false
+          u = le-ltb 4076 (length (areaIn l)) (omega (arith, sound .long))
+
+          go : (b : Bool) → ltb (length d) (length (areaIn l)) ≡ b → said ≡ cond b (Refused (record { number = 25; second = length (areaIn l) })) (Area (length (areaIn l)) kind flags) → held ≡ cond b d (over (areaIn l) d) → Wrote l d said held
+          go true e s g = record { says = s ∙ rw (f .marked-is, f .allowed, sound .faultless, u, e); holds = g ∙ rw (f .marked-is, f .allowed, sound .faultless, u, e) }
+          go false e s g = record { says = s ∙ rw (f .marked-is, f .allowed, sound .faultless, u, e, f .kind-is, f .flags-is); holds = g ∙ rw (f .marked-is, f .allowed, sound .faultless, u, e) }

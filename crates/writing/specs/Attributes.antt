@@ -2,28 +2,20 @@
 -- octets. Assumes nothing.
 use mathlib.Core.Path.{_≡_}
 use Prim.Native.Nat.{ℕ, _+_, _*_, _-_, _/_, _%_}
-use mathlib.Core.Bool.{Bool, true, cond, _&&_}
+use mathlib.Core.Bool.{Bool, true, cond}
 use mathlib.Core.List.{List, [], _∷_}
 use lib.Dec.{eqb}
 use lib.ListN.{length, drop, getD, set}
 use Rattle.meaning.specs.Octets.{digitText, text, unpack}
 use Rattle.meaning.specs.Framing.{isPlain}
 use Rattle.meaning.specs.Shapes.{shapeOf}
+use Rattle.meaning.specs.Sheet.{attributeOctets}
 use Rattle.octets.specs.Parts.{Begun}
 use Rattle.octets.specs.DigitStrings.{packedDigits, decimals}
 use Rattle.shape.specs.Codes.{codeOf}
 use Rattle.item.specs.Stands.{standsAs}
 
--- the octets of the value that an item of this form and count stands for
-unfoldable pub valueLength : (form count : ℕ) → ℕ
-valueLength f c = cond (eqb f 5) (2 * c) (cond (eqb f 6) (1 + 2 * c) c)
-
--- the head of an attribute whose value has k octets
-unfoldable pub attributeHead : (number k : ℕ) → List ℕ
-attributeHead n k =
-    cond (isPlain n) (n ∷ (k + 2) ∷ []) (26 ∷ (k + 8) ∷ 0 ∷ 0 ∷ 40 ∷ 175 ∷ (n - 256) ∷ (k + 2) ∷ [])
-
--- what is laid of it before the value, by the number alone: but for the lengths, 0 where they are to stand
+-- what is laid of an attribute before its value, by the number alone: its head but for the lengths, 0 where they are to stand
 unfoldable pub attributeFront : (number : ℕ) → List ℕ
 attributeFront n = cond (isPlain n) (n ∷ []) (26 ∷ 0 ∷ 0 ∷ 0 ∷ 40 ∷ 175 ∷ (n - 256) ∷ 0 ∷ [])
 
@@ -49,12 +41,13 @@ pub record Digited (at count : ℕ) (st d : List ℕ) (said : Bool) (out : List 
   pub says : said ≡ packedDigits count st
   pub is : said ≡ true → Begun at (decimals (unpack count st)) d out
 
--- what the writer of four octets at a place says, where the number is of their form, and that they stand there then
-pub record Foured (at : ℕ) (own : Bool) (st d : List ℕ) (said : ℕ) (out : List ℕ) : Type 0 where
-  pub says : said ≡ cond (own && eqb (length st) 4) 4 256
-  pub is : own && eqb (length st) 4 ≡ true → Begun at st d out
+-- what a writer of a value at a place says, its octets or 256 where it does not stand, and that it stands there then
+pub record Laying (at : ℕ) (stands : Bool) (value d : List ℕ) (said : ℕ) (out : List ℕ) : Type 0 where
+  pub says : said ≡ cond stands (length value) 256
+  pub is : stands ≡ true → Begun at value d out
 
--- what the writer of an item's value at a place says, and that the value stands there then, where some readable attribute gives the item
-pub record Valued (at n f c : ℕ) (st d : List ℕ) (said : ℕ) (out : List ℕ) : Type 0 where
-  pub says : said ≡ cond (standsAs n f c st) (valueLength f c) 256
-  pub is : standsAs n f c st ≡ true → Begun at (valueAs n f c st) d out
+-- what the writer of an item's attribute at a place says, its octets or 0, and that it stands there then, where some readable attribute
+-- gives the item
+pub record Attributed (at n f c : ℕ) (st d : List ℕ) (said : ℕ) (out : List ℕ) : Type 0 where
+  pub says : said ≡ cond (standsAs n f c st) (length (attributeOctets n (valueAs n f c st))) 0
+  pub is : standsAs n f c st ≡ true → Begun at (attributeOctets n (valueAs n f c st)) d out

@@ -3,19 +3,19 @@
 use area::Refusal;
 use item::Headed;
 ghost use mathlib.Core.Path.{_≡_};
-ghost use mathlib.Core.Bool.{cond};
+ghost use mathlib.Core.Bool.{cond, _&&_};
 ghost use Prim.Native.Nat.{_+_, _*_, _%_, _≤_, _<_};
 ghost use lib.Dec.{eqb};
-ghost use lib.ListN.{length};
-ghost use Rattle.meaning.specs.Octets.{digitText, packedLength};
+ghost use lib.ListN.{length, take};
+ghost use Rattle.meaning.specs.Octets.{digitText, text, unpack, packedLength};
 ghost use Rattle.meaning.specs.Shapes.{shapeOf};
-ghost use Rattle.meaning.specs.Sheet.{areaIn, marked, storedLength};
-ghost use Rattle.meaning.specs.Answers.{over};
+ghost use Rattle.meaning.specs.Sheet.{marked, storedLength};
 ghost use Rattle.octets.specs.Parts.{laidAt};
 ghost use Rattle.meaning.specs.Framing.{headLength};
-ghost use Rattle.shape.specs.Codes.{codeOf};
-ghost use Rattle.writing.specs.Attributes.{profileText, attributeFront, lengthsAt, Digited, Foured, Valued};
-ghost use Rattle.writing.specs.Answers.{Accepted, Ready, Holding, Transcribed, Wrote};
+ghost use Rattle.shape.specs.Codes.{codeOf, shapeBy};
+ghost use Rattle.item.specs.Stands.{raw, shaped, standsAs};
+ghost use Rattle.writing.specs.Attributes.{profileText, valueAs, attributeFront, lengthsAt, Digited, Laying, Attributed};
+ghost use Rattle.writing.specs.Answers.{judgedRefused, Fronted, Transcribed, Handed, Wrote};
 
 // What writing answers: the octets of the area that stands at the buffer's start, with the kind and flags of the sheet, or a refusal.
 pub enum Writing {
@@ -78,15 +78,12 @@ fn put_profile(buf: &mut [u8], at: usize, stored: &[u8])
     octets::unpack_at(buf, at + 3, &stored[1..], 2 * (stored.len() - 1));
 }
 
-// The one octet of a value in form 7: any octet as it stands, or the digit's text.
-fn octet_text(number: u16, x: u8) -> u8
-    ensures { λ r. ⌜ r ≡ cond (eqb (codeOf (shapeOf number)) 71) x (digitText (x % 16)) ⌝ }
+// The one octet of a value in form 7: any octet as it stands, or the digit's text. Here and below `code` is that of the shape of the
+// item's number.
+fn octet_text(code: u8, x: u8) -> u8
+    ensures { λ r. ⌜ r ≡ cond (eqb code 71) x (digitText (x % 16)) ⌝ }
 {
-    if number == 267 {
-        x
-    } else {
-        octets::digit_text(x)
-    }
+    if code == 71 { x } else { octets::digit_text(x) }
 }
 
 // Lays decimal digits that stand two to an octet, as text, and says true; false where some half is no digit, or an odd last low half
@@ -119,7 +116,7 @@ fn put_digits(buf: &mut [u8], at: usize, count: usize, stored: &[u8]) -> bool
 // Lays four octets of a number or an address, where the item's number is of that form; 256 where it is not.
 fn put_fours(buf: &mut [u8], at: usize, own: bool, stored: &[u8]) -> usize
     requires { ⌜ at + 4 ≤ length (now buf) ⌝ }
-    ensures { λ r. ⌜ Foured at own (now (stored .entry)) (now (buf .entry)) r (now (buf .exit)) ⌝ }
+    ensures { λ r. ⌜ Laying at (own && eqb (length (now (stored .entry))) 4) (now (stored .entry)) (now (buf .entry)) r (now (buf .exit)) ⌝ }
 {
     if !own {
         return 256;
@@ -132,12 +129,12 @@ fn put_fours(buf: &mut [u8], at: usize, own: bool, stored: &[u8]) -> usize
 }
 
 // Lays the digits of an item in form 4 and gives their count; 256 where no readable attribute gives the item.
-fn put_packed(buf: &mut [u8], at: usize, number: u16, count: u8, stored: &[u8]) -> usize
+fn put_packed(buf: &mut [u8], at: usize, code: u8, count: u8, stored: &[u8]) -> usize
     requires { ⌜ (length (now stored) ≡ packedLength count) × (at + 255 ≤ length (now buf)) ⌝ }
-    ensures { λ r. ⌜ Valued at number 4 count (now (stored .entry)) (now (buf .entry)) r (now (buf .exit)) ⌝ }
+    ensures { λ r. ⌜ Laying at (shaped (shapeBy code) 4 count (now (stored .entry))) (text (unpack count (now (stored .entry)))) (now (buf .entry)) r (now (buf .exit)) ⌝ }
 {
     let n = octets::wide(count);
-    if !item::takes_digits(number, count) {
+    if !item::takes_digits(code, count) {
         return 256;
     }
     if !put_digits(buf, at, n, stored) {
@@ -147,11 +144,11 @@ fn put_packed(buf: &mut [u8], at: usize, number: u16, count: u8, stored: &[u8]) 
 }
 
 // Lays the text of an item in form 6 and gives its octets; 256 where no readable attribute gives the item.
-fn put_qos(buf: &mut [u8], at: usize, number: u16, stored: &[u8]) -> usize
+fn put_qos(buf: &mut [u8], at: usize, code: u8, stored: &[u8]) -> usize
     requires { ⌜ at + 255 ≤ length (now buf) ⌝ }
-    ensures { λ r. ⌜ Valued at number 6 (length (now (stored .entry))) (now (stored .entry)) (now (buf .entry)) r (now (buf .exit)) ⌝ }
+    ensures { λ r. ⌜ Laying at (shaped (shapeBy code) 6 (length (now (stored .entry))) (now (stored .entry))) (profileText (now (stored .entry))) (now (buf .entry)) r (now (buf .exit)) ⌝ }
 {
-    if number != 261 {
+    if code != 60 {
         return 256;
     }
     if !item::holds_qos(stored) {
@@ -161,38 +158,92 @@ fn put_qos(buf: &mut [u8], at: usize, number: u16, stored: &[u8]) -> usize
     1 + 2 * stored.len()
 }
 
-// Lays the value that an item stands for and gives its octets; 256 where no readable attribute gives the item.
-fn put_value(buf: &mut [u8], at: usize, number: u16, form: u8, count: u8, stored: &[u8]) -> usize
-    requires { ⌜ (length (now stored) ≡ storedLength form count) × (at + 255 ≤ length (now buf)) ⌝ }
-    ensures { λ r. ⌜ Valued at number form count (now (stored .entry)) (now (buf .entry)) r (now (buf .exit)) ⌝ }
+// Lays a value that stands as it is, the first `size` octets of `rest`, and gives its octets; 256 where no readable attribute gives the
+// item. A short one goes with what stands behind it.
+fn put_raw(
+    buf: &mut [u8],
+    at: usize,
+    number: u16,
+    code: u8,
+    form: u8,
+    rest: &[u8],
+    size: usize,
+) -> usize
+    requires { ⌜ (size ≤ length (now rest)) × (at + 255 ≤ length (now buf)) ⌝ }
+    ensures { λ r. ⌜ Laying at (raw number code form (take size (now (rest .entry)))) (take size (now (rest .entry))) (now (buf .entry)) r (now (buf .exit)) ⌝ }
 {
+    if !item::is_raw(number, code, form, &rest[..size]) {
+        return 256;
+    }
+    if size <= 16 {
+        octets::copy_sixteen(buf, at, rest);
+    } else {
+        octets::copy_at(buf, at, &rest[..size]);
+    }
+    size
+}
+
+// Lays the value that an item stands for, by the first `size` octets of `rest`, and gives its octets; 256 where no readable attribute
+// gives the item.
+fn put_value(
+    buf: &mut [u8],
+    at: usize,
+    number: u16,
+    code: u8,
+    form: u8,
+    count: u8,
+    rest: &[u8],
+    size: usize,
+) -> usize
+    requires { ⌜ (code ≡ codeOf (shapeOf number)) × ((size ≡ storedLength form count) × ((size ≤ length (now rest)) × (at + 255 ≤ length (now buf)))) ⌝ }
+    ensures { λ r. ⌜ Laying at (standsAs number form count (take size (now (rest .entry)))) (valueAs number form count (take size (now (rest .entry)))) (now (buf .entry)) r (now (buf .exit)) ⌝ }
+{
+    let stored = &rest[..size];
     match form {
-        2 => put_fours(buf, at, item::is_number(number), stored),
-        3 => put_fours(buf, at, item::is_address(number), stored),
-        4 => put_packed(buf, at, number, count, stored),
+        2 => put_fours(buf, at, code == 20, stored),
+        3 => put_fours(buf, at, code == 30, stored),
+        4 => put_packed(buf, at, code, count, stored),
         5 => {
-            if (number != 44) | (stored.len() != 8) {
+            if (code != 50) | (size != 8) {
                 return 256;
             }
             octets::unpack_at(buf, at, stored, 16);
             16
         }
-        6 => put_qos(buf, at, number, stored),
+        6 => put_qos(buf, at, code, stored),
         7 => {
-            if !item::is_octet(number, stored) {
+            if !item::is_octet(code, stored) {
                 return 256;
             }
-            buf[at] = octet_text(number, stored[0]);
+            buf[at] = octet_text(code, stored[0]);
             1
         }
-        _ => {
-            if !item::is_raw(number, form, stored) {
-                return 256;
-            }
-            octets::copy_at(buf, at, stored);
-            stored.len()
-        }
+        _ => put_raw(buf, at, number, code, form, rest, size),
     }
+}
+
+// Lays the attribute that an item gives and says how many octets it has; 0 where no readable attribute gives the item.
+fn put_attribute(
+    buf: &mut [u8],
+    at: usize,
+    number: u16,
+    form: u8,
+    count: u8,
+    rest: &[u8],
+    size: usize,
+) -> usize
+    requires { ⌜ (number < 512) × ((size ≡ storedLength form count) × ((size ≤ length (now rest)) × (at + 263 ≤ length (now buf)))) ⌝ }
+    ensures { λ r. ⌜ Attributed at number form count (take size (now (rest .entry))) (now (buf .entry)) r (now (buf .exit)) ⌝ }
+{
+    let code = shape::code_of(number);
+    let head = area::head_len(number);
+    put_front(buf, at, number);
+    let put = put_value(buf, at + head, number, code, form, count, rest, size);
+    if put == 256 {
+        return 0;
+    }
+    put_lengths(buf, at, head, put);
+    head + put
 }
 
 // Whether octets begin with the mark and the version of a sheet and have its nine octets.
@@ -204,6 +255,16 @@ fn is_marked(sheet: &[u8]) -> bool
     }
     (sheet[0] == b'G')
         & ((sheet[1] == b'I') & ((sheet[2] == b'R') & ((sheet[3] == 0) & (sheet[4] == 1))))
+}
+
+// A refusal at a place of a sheet.
+fn broken(number: u32, place: usize) -> Judged
+    ensures { λ r. ⌜ r ≡ judgedRefused number place ⌝ }
+{
+    Judged::Broken(Refusal {
+        number,
+        second: place,
+    })
 }
 
 // Tests and lays the items of a sheet from the left, and tests what remains behind them. An item that begins behind the last place where
@@ -225,17 +286,13 @@ fn transcribe(sheet: &[u8], buf: &mut [u8]) -> Judged
                 next,
             } => {
                 let at = octets::least(written, last);
-                let head = area::head_len(number);
-                put_front(buf, at, number);
-                let put = put_value(buf, at + head, number, form, count, &sheet[place + 4..next]);
-                if put == 256 {
-                    return Judged::Broken(Refusal {
-                        number: 23,
-                        second: place,
-                    });
+                let behind = place + 4;
+                let rest = &sheet[behind..];
+                let put = put_attribute(buf, at, number, form, count, rest, next - behind);
+                if put == 0 {
+                    return broken(23, place);
                 }
-                put_lengths(buf, at, head, put);
-                written += head + put;
+                written += put;
                 place = next;
                 left -= 1;
             }
@@ -245,50 +302,68 @@ fn transcribe(sheet: &[u8], buf: &mut [u8]) -> Judged
         }
     }
     if place < sheet.len() {
-        return Judged::Broken(Refusal {
-            number: 22,
-            second: place,
-        });
+        return broken(22, place);
     }
     Judged::Items(written)
 }
 
-// Lays the area of a sheet whose items were tested over the buffer's start, where the area is long: the sheet is gone over again.
-fn long(sheet: &[u8], needed: usize, area: &mut [u8])
-    requires { ⌜ Accepted (now sheet) × ((needed ≡ length (areaIn (now sheet))) × ((needed ≤ 4076) × (needed ≤ length (now area)))) ⌝ }
-    ensures { λ _. ⌜ now (area .exit) ≡ over (areaIn (now (sheet .entry))) (now (area .entry)) ⌝ }
+// An area that is made, laid over the start of the buffer, or refusal 25 where the buffer has not the room for it.
+fn hand_over(made: &[u8], kind: u8, flags: u8, area: &mut [u8]) -> Writing
+    ensures { λ r. ⌜ Handed (now (made .entry)) kind flags (now (area .entry)) r (now (area .exit)) ⌝ }
 {
-    let mut buf = [0u8; 4339];
-    transcribe(sheet, &mut buf);
-    octets::copy_at(area, 0, &buf[..needed]);
-}
-
-// The area of a sheet whose items were tested and laid in `buf`, or refusal 24 or 25.
-fn fit(sheet: &[u8], kind: u8, flags: u8, needed: usize, buf: &[u8], area: &mut [u8]) -> Writing
-    requires { ⌜ Ready (now sheet) kind flags needed × Holding (now sheet) needed (now buf) ⌝ }
-    ensures { λ r. ⌜ Wrote (now (sheet .entry)) (now (area .entry)) r (now (area .exit)) ⌝ }
-{
-    if 4076 < needed {
-        return Writing::Refused(Refusal {
-            number: 24,
-            second: needed,
-        });
-    }
+    let needed = made.len();
     if area.len() < needed {
         return Writing::Refused(Refusal {
             number: 25,
             second: needed,
         });
     }
-    if needed + 263 <= buf.len() {
-        octets::copy_at(area, 0, &buf[..needed]);
-    } else {
-        long(sheet, needed, area);
-    }
+    octets::copy_at(area, 0, made);
     Writing::Area {
         length: needed,
         kind,
         flags,
+    }
+}
+
+// The area of a sheet to which neither 20 nor 21 applies, by a buffer with room for the longest; or the first of refusals 22 to 25.
+fn long(sheet: &[u8], kind: u8, flags: u8, area: &mut [u8]) -> Writing
+    requires { ⌜ Fronted (now sheet) kind flags ⌝ }
+    ensures { λ r. ⌜ Wrote (now (sheet .entry)) (now (area .entry)) r (now (area .exit)) ⌝ }
+{
+    let mut buf = [0u8; 4339];
+    match transcribe(sheet, &mut buf) {
+        Judged::Broken(refusal) => {
+            return Writing::Refused(refusal);
+        }
+        Judged::Items(needed) => {
+            if 4076 < needed {
+                return Writing::Refused(Refusal {
+                    number: 24,
+                    second: needed,
+                });
+            }
+            return hand_over(&buf[..needed], kind, flags, area);
+        }
+    }
+}
+
+// The same. Most areas are short, and a short buffer takes less time to clear; an area that it has no room for is made again.
+fn short(sheet: &[u8], kind: u8, flags: u8, area: &mut [u8]) -> Writing
+    requires { ⌜ Fronted (now sheet) kind flags ⌝ }
+    ensures { λ r. ⌜ Wrote (now (sheet .entry)) (now (area .entry)) r (now (area .exit)) ⌝ }
+{
+    let mut buf = [0u8; 640];
+    match transcribe(sheet, &mut buf) {
+        Judged::Broken(refusal) => {
+            return Writing::Refused(refusal);
+        }
+        Judged::Items(needed) => {
+            if 377 < needed {
+                return long(sheet, kind, flags, area);
+            }
+            return hand_over(&buf[..needed], kind, flags, area);
+        }
     }
 }
 
@@ -310,13 +385,8 @@ pub fn write(sheet: &[u8], area: &mut [u8]) -> Writing
             second: 0,
         });
     }
-    let mut short = [0u8; 640];
-    match transcribe(sheet, &mut short) {
-        Judged::Broken(refusal) => {
-            return Writing::Refused(refusal);
-        }
-        Judged::Items(needed) => {
-            return fit(sheet, kind, flags, needed, &short, area);
-        }
+    if 512 < sheet.len() {
+        return long(sheet, kind, flags, area);
     }
+    short(sheet, kind, flags, area)
 }

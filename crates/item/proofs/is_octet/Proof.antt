@@ -1,14 +1,13 @@
--- A law for each number of form 7, and any other number. Assumes nothing.
+-- A law for each code of form 7, and any other code. Assumes nothing.
 use borrow.Author.Needs.{needs}
 use mathlib.Core.Path.{refl, sym, _∙_}
 use mathlib.Core.List.{[], _∷_}
-use native.Mathlib.Omega.{arith}
-use Rattle.meaning.specs.Shapes.{hexDigit, anyOctet, decimalDigit, shapeOf, plainShape, gppShape}
 use Rattle.meaning.specs.Sheet.{formOf}
+use Rattle.shape.specs.Codes.{codeOf, shapeBy}
 use Rattle.shape.proofs.Codes.{alone}
 use Rattle.shape.proofs.Coded.{past-not-in}
 use Rattle.item.proofs.Held.{octet-held, hex-digit-held, decimal-digit-held}
-use Rattle.item.proofs.Shaping.{form-not-from, shaped-not, shaped-as}
+use Rattle.item.proofs.Shaping.{shaped-as, shaped-not}
 use Rattle.item.proofs.is_octet.Statement.{statement}
 use Rattle.item.proofs.is_octet.Tie as tie
 
@@ -19,20 +18,20 @@ holds-one-requires-2 : tie.Need-holds-one-requires-2
 holds-one-requires-2 c κs = search needs
 
 returns : tie.Need-returns
-unfolding shapeOf plainShape gppShape formOf
-returns c = c .holds-one .ensures ∙ sym (hex-digit-held _ _) ∙ shaped-as _ 7 _ _ hexDigit (rw (c .before .match .keys1)) refl
+unfolding shapeBy codeOf formOf
+returns c = c .holds-one .ensures ∙ sym (hex-digit-held _ _) ∙ shaped-as _ 7 _ _ 70 (c .before .match .keys1) refl
 
 returns-2 : tie.Need-returns-2
-unfolding shapeOf plainShape gppShape formOf
-returns-2 c = sym (octet-held _ (c .before .before .args .stored .now) refl) ∙ shaped-as _ 7 _ _ anyOctet (rw (c .match .keys2)) refl
+unfolding shapeBy codeOf formOf
+returns-2 c = sym (octet-held _ (c .before .before .args .stored .now) refl) ∙ shaped-as _ 7 _ _ 71 (c .match .keys2) refl
 
 returns-3 : tie.Need-returns-3
-unfolding shapeOf plainShape gppShape formOf
-returns-3 c = c .holds-one2 .ensures ∙ sym (decimal-digit-held _ _) ∙ shaped-as _ 7 _ _ decimalDigit (rw (c .before .match .keys3)) refl
+unfolding shapeBy codeOf formOf
+returns-3 c = c .holds-one2 .ensures ∙ sym (decimal-digit-held _ _) ∙ shaped-as _ 7 _ _ 72 (c .before .match .keys3) refl
 
 returns-4 : tie.Need-returns-4
-unfolding shapeOf plainShape gppShape formOf
-returns-4 c = shaped-not _ 7 _ _ (form-not-from 7 0 (266 ∷ 267 ∷ 268 ∷ []) tt tt (c .before .before .args .number) (past-not-in (Unit {0}) _ (alone (266 ∷ 267 ∷ 268 ∷ [])) (c .match .rest)) (omega arith))
+unfolding codeOf formOf
+returns-4 c = shaped-not _ 7 _ _ (70 ∷ 71 ∷ 72 ∷ []) tt (past-not-in (Unit {0}) _ (alone (70 ∷ 71 ∷ 72 ∷ [])) (c .match .rest))
 
 pub is-octet-spec : {M : Type 1} → statement M
 is-octet-spec = tie.close (tie.spec holds-one-requires holds-one-requires-2 returns returns-2 returns-3 returns-4)

@@ -4,8 +4,9 @@ use borrow.Author.Tests.{lt-ltb, le-ltb}
 use mathlib.Core.Path.{_≡_, sym, _∙_}
 use mathlib.Core.Logic.{⊎-elim}
 use mathlib.Core.Bool.{cond}
+use native.Mathlib.Omega.{arith}
 use Rattle.meaning.specs.Framing.{isPlain}
-use Rattle.item.proofs.Judging.{raw-other, raw-shaped, raw-form, raw-formless}
+use Rattle.item.proofs.Judging.{raw-other, raw-met, raw-missed, raw-formless}
 use Rattle.item.proofs.is_raw.Statement.{statement}
 use Rattle.item.proofs.is_raw.Tie as tie
 
@@ -16,27 +17,22 @@ plain-form c =
     ⊎-elim (λ k. k .1 ∙ rw (lt-ltb n 256 (k .0 .taken))) (λ k. k .1 ∙ rw (le-ltb n 256 (k .0 .left))) (c .if1 .came)
 
 returns : tie.Need-returns
-returns c = raw-other _ _ _ (λ e. c .if2 .taken (e ∙ sym (plain-form (c .before))))
+returns c = raw-other _ _ _ _ (λ e. c .if2 .taken (e ∙ sym (plain-form (c .before))))
 
-has-form-requires : tie.Need-has-form-requires
-has-form-requires c κs = search needs
-
-form-of-requires : tie.Need-form-of-requires
-form-of-requires c κs = search needs
+meets-code-requires : tie.Need-meets-code-requires
+meets-code-requires c κs = search needs
 
 returns-2 : tie.Need-returns-2
-returns-2 c = raw-shaped _ _ _ _ (c .before .form-of .ensures) (c .if4 .taken)
+returns-2 c = raw-met _ _ _ _ (omega arith) (sym (c .before .meets-code .ensures) ∙ c .if4 .taken)
 
 carries-requires : tie.Need-carries-requires
 carries-requires c κs = search needs
 
 returns-3 : tie.Need-returns-3
 returns-3 c =
-    let f = c .before .before .before .if2 .left ∙ plain-form (c .before .before .before .before) in
+    let f = c .before .before .if2 .left ∙ plain-form (c .before .before .before) in
     c .carries .ensures
-    ∙ ⊎-elim (λ k. raw-form _ _ _ _ (k .1 .ensures) f (k .2 .left)) (λ k. raw-formless _ _ _ f (sym (c .before .before .has-form .ensures) ∙ k .left)) (c .before .if3 .came)
+    ∙ ⊎-elim (λ k. raw-missed _ _ _ _ f (sym (k .1 .ensures) ∙ k .2 .left)) (λ k. raw-formless _ _ _ _ f (k .left)) (c .before .if3 .came)
 
 pub is-raw-spec : {M : Type 1} → statement M
-is-raw-spec =
-    tie.close
-    (tie.spec returns has-form-requires form-of-requires returns-2 carries-requires returns-3)
+is-raw-spec = tie.close (tie.spec returns meets-code-requires returns-2 carries-requires returns-3)

@@ -1,9 +1,9 @@
--- The sheet is gone over again, and the area copied. Assumes nothing.
+-- The refusals of the items, refusal 24, and what is left to `hand_over`. Assumes nothing.
 use borrow.Author.Needs.{needs}
 use mathlib.Core.Path.{sym}
 use native.Mathlib.Omega.{arith}
 use lib.Seq.{length-take-le}
-use Rattle.writing.proofs.Whole.{marked-nine, accepted-held, area-copied}
+use Rattle.writing.proofs.Whole.{marked-nine, write-broken, write-24, written}
 use Rattle.writing.proofs.long.Statement.{statement}
 use Rattle.writing.proofs.long.Tie as tie
 
@@ -11,24 +11,36 @@ slice-aggregate-transcribe : tie.Need-slice-aggregate-transcribe
 slice-aggregate-transcribe c = search needs
 
 transcribe-requires : tie.Need-transcribe-requires
-transcribe-requires c κs = (marked-nine _ (c .before .before .before .pre .0 .marked-is), omega arith)
+transcribe-requires c κs = (marked-nine _ (c .before .before .before .pre .marked-is), omega arith)
+
+enum-known-refusal : tie.Need-enum-known-refusal
+enum-known-refusal c = search needs
+
+returns : tie.Need-returns
+returns c = write-broken _ _ _ _ (c .before .before .before .before .before .before .before .before .pre) _ _ (c .before .before .before .before .transcribe .ensures) _ (c .before .refusal .given .1)
+
+enum-known-needed : tie.Need-enum-known-needed
+enum-known-needed c = search needs
+
+returns-2 : tie.Need-returns-2
+returns-2 c = write-24 _ _ _ _ (c .before .before .before .before .before .before .before .before .before .pre) _ _ (c .before .before .before .before .before .transcribe .ensures) _ (c .before .before .needed .given .1) (c .if1 .taken)
 
 array-share-prefix-buf : tie.Need-array-share-prefix-buf
 array-share-prefix-buf c = search needs
 
-slice-aggregate-copy-at : tie.Need-slice-aggregate-copy-at
-slice-aggregate-copy-at c = sym (length-take-le _ _ (omega (arith, c .before .before .before .before .before .before .before .pre .1 .1 .0, c .before .before .before .transcribe .kept .1 .0)))
+slice-aggregate-hand-over : tie.Need-slice-aggregate-hand-over
+slice-aggregate-hand-over c = sym (length-take-le _ _ (omega (arith, c .before .if1 .left, c .before .before .before .before .before .before .transcribe .kept .1 .0)))
 
-copy-at-requires : tie.Need-copy-at-requires
-copy-at-requires c κs = search needs
+hand-over-requires : tie.Need-hand-over-requires
+hand-over-requires c κs = search needs
 
 same-length : tie.Need-same-length
 same-length c = search needs
 
-returns : tie.Need-returns
-returns c = let p = c .before .before .before .before .before .before .before .before .before .before .pre in
-    let t = c .before .before .before .before .before .before .transcribe in
-    area-copied _ _ _ _ _ (p .1 .0) (p .1 .1 .1) (accepted-held _ _ (p .0) (p .1 .0) _ _ (t .ensures) (omega (arith, p .1 .1 .0, t .kept .1 .0))) (c .before .before .copy-at .ensures .holds)
+returns-3 : tie.Need-returns-3
+returns-3 c = let t = c .before .before .before .before .before .before .before .before .before .before .transcribe in
+    let few = c .before .before .before .before .before .if1 .left in
+    written _ _ _ _ (c .before .before .before .before .before .before .before .before .before .before .before .before .before .before .pre) _ _ (t .ensures) _ (c .before .before .before .before .before .before .before .needed .given .1) few (omega (arith, few, t .kept .1 .0)) _ _ (c .before .before .hand-over .ensures)
 
 pub long-spec : {M : Type 1} → statement M
 long-spec =
@@ -36,8 +48,12 @@ long-spec =
     (tie.spec
     slice-aggregate-transcribe
     transcribe-requires
+    enum-known-refusal
+    returns
+    enum-known-needed
+    returns-2
     array-share-prefix-buf
-    slice-aggregate-copy-at
-    copy-at-requires
+    slice-aggregate-hand-over
+    hand-over-requires
     same-length
-    returns)
+    returns-3)

@@ -1,16 +1,16 @@
--- Another number, another count, or the four octets. Assumes nothing.
+-- Another code, another count, or the four octets. Assumes nothing.
 use borrow.Author.Needs.{needs}
 use borrow.Author.Tests.{ne-eqb, not-true, not-false}
 use mathlib.Core.Bool.{and-false}
-use Rattle.writing.proofs.Valuing.{fours-none, fours-laid}
+use Rattle.writing.proofs.Valuing.{laying-none, fours-laid}
 use Rattle.writing.proofs.put_fours.Statement.{statement}
 use Rattle.writing.proofs.put_fours.Tie as tie
 
 returns : tie.Need-returns
-returns c = let a = c .before .before .before .args in fours-none _ (a .own) _ _ (rw (not-true (a .own) (c .if1 .taken)))
+returns c = let a = c .before .before .before .args in laying-none _ _ _ _ _ (rw (not-true (a .own) (c .if1 .taken)))
 
 returns-2 : tie.Need-returns-2
-returns-2 c = let a = c .before .before .before .before .args in fours-none _ (a .own) _ _ (rw (ne-eqb _ 4 (c .if2 .taken)) (and-false (a .own)))
+returns-2 c = let a = c .before .before .before .before .args in laying-none _ _ _ _ _ (rw (ne-eqb _ 4 (c .if2 .taken)) (and-false (a .own)))
 
 shared-slice-read-t11 : tie.Need-shared-slice-read-t11
 shared-slice-read-t11 c = search needs
@@ -31,7 +31,7 @@ same-length : tie.Need-same-length
 same-length c = search needs
 
 returns-3 : tie.Need-returns-3
-returns-3 c = fours-laid _ _ _ _ _ (not-false _ (c .before .before .before .before .before .before .before .before .before .if1 .left)) (c .before .before .before .before .before .before .before .before .if2 .left) (c .before .before .before .before .before .before .before .before .before .before .before .before .pre) (c .before .before .put-four .ensures)
+returns-3 c = let s = c .before .before .before .before .before .before .before .before .before .before .before .before in fours-laid _ (s .args .own) _ _ _ (not-false _ (c .before .before .before .before .before .before .before .before .before .if1 .left)) (c .before .before .before .before .before .before .before .before .if2 .left) (s .pre) (c .before .before .put-four .ensures)
 
 pub put-fours-spec : {M : Type 1} → statement M
 put-fours-spec =

@@ -1,8 +1,8 @@
--- A number that takes no such digits, octets that are none, or the digits. Assumes nothing.
+-- A code that takes no such digits, octets that are none, or the digits. Assumes nothing.
 use borrow.Author.Needs.{needs}
 use borrow.Author.Tests.{not-true, not-false}
 use Rattle.octets.proofs.Parts.{slice-octets}
-use Rattle.writing.proofs.Valuing.{digits-not-taken, digits-not-packed, digits-valued}
+use Rattle.writing.proofs.Valuing.{digits-not-taken, digits-not-packed, digits-packed}
 use Rattle.writing.proofs.put_packed.Statement.{statement}
 use Rattle.writing.proofs.put_packed.Tie as tie
 
@@ -33,7 +33,7 @@ same-length-2 c = search needs
 returns-3 : tie.Need-returns-3
 returns-3 c = let k = c .before .before .before .before in
     let l = c .before .before .before .before .before .before .before .before .before .before .args .stored .now in
-    digits-valued _ _ _ l _ (c .before .before .before .before .before .before .before .before .before .before .pre .0) (slice-octets l (c .before .before .before .before .before .before .before .before .shared-slice-known .given)) _ (k .before .before .takes-digits .ensures) (not-false _ (k .before .if1 .left)) _ _ (rw (k .before .before .before .wide .ensures) at (c .before .before .before .put-digits .ensures)) (not-false _ (c .if2 .left)) _ (k .before .before .before .wide .ensures)
+    digits-packed _ _ _ l _ (c .before .before .before .before .before .before .before .before .before .before .pre .0) (slice-octets l (c .before .before .before .before .before .before .before .before .shared-slice-known .given)) _ (k .before .before .takes-digits .ensures) (not-false _ (k .before .if1 .left)) _ _ (rw (k .before .before .before .wide .ensures) at (c .before .before .before .put-digits .ensures)) (not-false _ (c .if2 .left)) _ (k .before .before .before .wide .ensures)
 
 pub put-packed-spec : {M : Type 1} → statement M
 put-packed-spec =

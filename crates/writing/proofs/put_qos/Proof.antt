@@ -1,11 +1,11 @@
--- Another number, other octets, or the text of the profile. Assumes nothing.
+-- Another code, other octets, or the text of the profile. Assumes nothing.
 use borrow.Author.Needs.{needs}
 use borrow.Author.Tests.{not-true, not-false}
-use mathlib.Core.Path.{refl, sym, _∙_}
+use mathlib.Core.Path.{sym, _∙_}
 use native.Mathlib.Omega.{arith}
 use Rattle.octets.proofs.Parts.{slice-octets}
 use Rattle.writing.proofs.Values.{Profile, profile}
-use Rattle.writing.proofs.Valuing.{profile-not-261, profile-none, profile-valued}
+use Rattle.writing.proofs.Valuing.{profile-other, profile-none, profile-put}
 use Rattle.writing.proofs.put_qos.Statement.{statement}
 use Rattle.writing.proofs.put_qos.Tie as tie
 
@@ -16,13 +16,13 @@ held k =
     profile l (slice-octets l (k .before .before .before .before .shared-slice-known .given)) (sym (k .before .before .holds-qos .ensures) ∙ not-false _ (k .before .if2 .left))
 
 returns : tie.Need-returns
-returns c = let l = c .before .before .before .args .stored .now in profile-not-261 _ _ _ l _ refl (slice-octets l (c .before .shared-slice-known .given)) (c .if1 .taken) _
+returns c = profile-other _ _ _ _ (c .if1 .taken) _
 
 holds-qos-requires : tie.Need-holds-qos-requires
 holds-qos-requires c κs = search needs
 
 returns-2 : tie.Need-returns-2
-returns-2 c = let l = c .before .before .before .before .before .args .stored .now in profile-none _ _ _ l _ refl (slice-octets l (c .before .before .before .shared-slice-known .given)) (sym (c .before .holds-qos .ensures) ∙ not-true _ (c .if2 .taken)) _
+returns-2 c = profile-none _ _ _ _ (sym (c .before .holds-qos .ensures) ∙ not-true _ (c .if2 .taken)) _
 
 put-profile-requires : tie.Need-put-profile-requires
 put-profile-requires c κs = let p = held c in (p .some, omega (arith, p .few, c .before .before .before .before .before .before .pre))
@@ -39,7 +39,7 @@ same-length c = search needs
 returns-3 : tie.Need-returns-3
 returns-3 c = let k = c .before .before .before in
     let l = k .before .before .before .before .before .before .args .stored .now in
-    profile-valued _ _ _ l _ refl (slice-octets l (k .before .before .before .before .shared-slice-known .given)) (k .before .before .before .if1 .left) (sym (k .before .before .holds-qos .ensures) ∙ not-false _ (k .before .if2 .left)) _ (k .before .before .before .before .before .before .pre) (c .before .before .put-profile .ensures)
+    profile-put _ _ l _ (slice-octets l (k .before .before .before .before .shared-slice-known .given)) (k .before .before .before .if1 .left) (sym (k .before .before .holds-qos .ensures) ∙ not-false _ (k .before .if2 .left)) _ (k .before .before .before .before .before .before .pre) (c .before .before .put-profile .ensures)
 
 pub put-qos-spec : {M : Type 1} → statement M
 put-qos-spec =

@@ -6,12 +6,10 @@ use native.Mathlib.Omega.{arith}
 use lib.ListN.{length}
 use Rattle.octets.proofs.Parts.{slice-octets}
 use Rattle.meaning.specs.Octets.{Octets}
-use Rattle.meaning.specs.Framing.{headLength}
 use Rattle.item.specs.Answers.{headedAt}
 use Rattle.item.specs.declared.Headed.the-variants.{Item}
-use Rattle.writing.specs.Attributes.{Valued}
-use Rattle.writing.proofs.Entries.{stored-here, stored-size, behind-head, behind-within, carried-low}
-use Rattle.writing.proofs.Putting.{head-two, head-eight}
+use Rattle.writing.specs.Attributes.{Attributed}
+use Rattle.writing.proofs.Entries.{stored-here, size-is, size-within, behind-head, behind-within, carried-low, attributed-here}
 use Rattle.writing.proofs.Transcribing.{Transcribing, transcribing-none, transcribing-refused, transcribing-23, put-short, transcribing-more, transcribing-remains, transcribing-done}
 use Rattle.writing.proofs.transcribe.Statement.{statement}
 use Rattle.writing.proofs.transcribe.Tie as tie
@@ -52,24 +50,12 @@ within k = behind-within _ _ (octets k) _ (says k) _ _ _ _ (item k)
 room : (k : tie.After-known-told Inv-loop μ-loop) → 263 ≤ length (k .before .before .before .before .before .loop .buf)
 room k = omega (arith, kept k, k .before .before .before .before .before .before .before .before .before .pre .1)
 
--- also at the place where it is laid
-fits : (m : tie.After-least Inv-loop μ-loop) → m .least .result + 263 ≤ length (m .before .before .before .before .before .before .loop .buf)
-fits m = omega (arith, room (m .before), kept (m .before), m .least .ensures)
-
--- and when the front is laid
-fits-still : (g : tie.After-put-front Inv-loop μ-loop) → g .before .before .before .least .result + 263 ≤ length (g .put-front .last .0)
-fits-still g = omega (arith, fits (g .before .before .before), g .put-front .kept .0)
-
--- what the writer of the value answered
-valued : (d : tie.After-put-value Inv-loop μ-loop) →
-    (let g = d .before .before .before .before .before in
-    let k = g .before .before .before .before in
+-- what the writer of the attribute answered
+attributed : (d : tie.After-put-attribute Inv-loop μ-loop) →
+    (let k = d .before .before .before .before in
     let f = k .before .number .given .0 in
-    Valued (g .before .before .before .least .result + headLength (f .0)) (f .0) (f .1 .0) (f .1 .1 .0) (stored-here _ _ (octets k) _ (says k) _ _ _ _ (item k)) (g .put-front .last .0) (d .put-value .result) (d .put-value .last .0))
-valued d = rw (d .before .before .before .before .before .before .before .head-len .ensures) at (d .put-value .ensures)
-
-short : (d : tie.After-put-value Inv-loop μ-loop) → (d .put-value .result ≡ 256 → ⊥) → headLength (d .before .before .before .before .before .before .before .before .before .before .number .given .0 .0) + d .put-value .result < 256
-short d h = let k = d .before .before .before .before .before .before .before .before .before in put-short _ _ _ _ _ (inv k) (some k) (octets k) _ (says k) _ _ _ _ (item k) _ _ _ _ (valued d) h
+    Attributed (d .before .before .before .least .result) (f .0) (f .1 .0) (f .1 .1 .0) (stored-here _ _ (octets k) _ (says k) _ _ _ _ (item k)) (k .before .before .before .before .before .loop .buf) (d .put-attribute .result) (d .put-attribute .last .0))
+attributed d = let k = d .before .before .before .before in attributed-here _ _ (octets k) _ (says k) _ _ _ _ (item k) _ _ _ _ (d .put-attribute .ensures)
 
 sub-last : tie.Need-sub-last Inv-loop μ-loop
 sub-last c = omega (arith, c .before .before .pre .1)
@@ -93,65 +79,52 @@ enum-known-number c = search needs
 least-requires : tie.Need-least-requires Inv-loop μ-loop
 least-requires c κs = search needs
 
-head-len-requires : tie.Need-head-len-requires Inv-loop μ-loop
-head-len-requires c κs = search needs
+add-behind : tie.Need-add-behind Inv-loop μ-loop
+add-behind c = let k = c .before in omega (arith, after k, within k, k .before .before .before .before .before .before .before .before .before .good)
 
-put-front-requires : tie.Need-put-front-requires Inv-loop μ-loop
-put-front-requires c κs = let k = c .before .before .before in
-    (carried-low _ _ (octets k) _ (says k) _ _ _ _ (item k), omega (arith, fits (c .before .before), head-eight (k .before .number .given .0 .0)))
+sub-rest : tie.Need-sub-rest Inv-loop μ-loop
+sub-rest c = omega (arith, after (c .before), within (c .before))
 
-add-put-value : tie.Need-add-put-value Inv-loop μ-loop
-add-put-value c = let g = c .before .before .before in
-    let k = g .before .before .before .before in
-    omega (arith, fits (g .before .before .before), head-eight (k .before .number .given .0 .0), g .before .before .head-len .ensures, kept k, k .before .before .before .before .before .before .before .before .before .good)
+part-rest-start : tie.Need-part-rest-start Inv-loop μ-loop
+part-rest-start c = omega (arith, after (c .before), within (c .before))
 
-add-put-value-2 : tie.Need-add-put-value-2 Inv-loop μ-loop
-add-put-value-2 c = let k = c .before .before .before .before .before .before .before in omega (arith, after k, within k, k .before .before .before .before .before .before .before .before .before .good)
+part-rest-end : tie.Need-part-rest-end Inv-loop μ-loop
+part-rest-end c = search needs
 
-sub-put-value : tie.Need-sub-put-value Inv-loop μ-loop
-sub-put-value c = let k = c .before .before .before .before .before .before .before in omega (arith, after k)
+sub-put-attribute : tie.Need-sub-put-attribute Inv-loop μ-loop
+sub-put-attribute c = omega (arith, after (c .before .before .before))
 
-part-put-value-start : tie.Need-part-put-value-start Inv-loop μ-loop
-part-put-value-start c = let k = c .before .before .before .before .before .before .before in omega (arith, after k)
+put-attribute-requires : tie.Need-put-attribute-requires Inv-loop μ-loop
+put-attribute-requires c κs = let k = c .before .before .before in
+    let m = c .before .before .least .ensures in
+    (carried-low _ _ (octets k) _ (says k) _ _ _ _ (item k), (size-is _ _ (octets k) _ (says k) _ _ _ _ (item k), (size-within _ _ (octets k) _ (says k) _ _ _ _ (item k), omega (arith, room k, kept k, m))))
 
-part-put-value-end : tie.Need-part-put-value-end Inv-loop μ-loop
-part-put-value-end c = let k = c .before .before .before .before .before .before .before in omega (arith, within k)
-
-put-value-requires : tie.Need-put-value-requires Inv-loop μ-loop
-put-value-requires c κs = let g = c .before .before .before .before in
-    let k = g .before .before .before .before in
-    (stored-size _ _ (octets k) _ (says k) _ _ _ _ (item k), omega (arith, fits-still g, head-eight (k .before .number .given .0 .0), g .before .before .head-len .ensures))
+broken-requires : tie.Need-broken-requires Inv-loop μ-loop
+broken-requires c κs = search needs
 
 same-length : tie.Need-same-length Inv-loop μ-loop
-same-length c = let d = c .before .before .before in d .put-value .kept .0 ∙ d .before .before .before .before .before .put-front .kept .0 ∙ kept (d .before .before .before .before .before .before .before .before .before)
+same-length c = let d = c .before .before .before .before in d .put-attribute .kept .0 ∙ kept (d .before .before .before .before)
 
 returns : tie.Need-returns Inv-loop μ-loop
-returns c = let d = c .before .before .before in let k = d .before .before .before .before .before .before .before .before .before in transcribing-23 _ _ _ _ _ (inv k) (some k) (octets k) _ (says k) _ _ _ _ (item k) _ _ _ _ (valued d) (c .if1 .taken) _
-
-put-lengths-requires : tie.Need-put-lengths-requires Inv-loop μ-loop
-put-lengths-requires c κs = let d = c .before .before .before .before in
-    let n = d .before .before .before .before .before .before .before .before .before .before .number .given .0 .0 in
-    let e = d .before .before .before .before .before .before .before .head-len .ensures in
-    (omega (arith, e, head-two n), (omega (arith, e, short d (c .before .if1 .left)), omega (arith, e, head-eight n, fits-still (d .before .before .before .before .before), d .put-value .kept .0)))
+returns c = let d = c .before .before .before .before in
+    let k = d .before .before .before .before in
+    rw (c .broken .ensures) (transcribing-23 _ _ _ _ _ (inv k) (some k) (octets k) _ (says k) _ _ _ _ (item k) _ _ _ (attributed d) (c .before .if1 .taken))
 
 add-written : tie.Need-add-written Inv-loop μ-loop
-add-written c = let d = c .before .before .before .before .before .before .before in omega (arith, short d (c .before .before .before .before .if1 .left), d .before .before .before .before .before .before .before .head-len .ensures)
-
-add-written-2 : tie.Need-add-written-2 Inv-loop μ-loop
-add-written-2 c = let d = c .before .before .before .before .before .before .before in omega (arith, short d (c .before .before .before .before .if1 .left), d .before .before .before .before .before .before .before .head-len .ensures, inv (d .before .before .before .before .before .before .before .before .before) .few)
+add-written c = let d = c .before .before .before in
+    let k = d .before .before .before .before in
+    omega (arith, put-short _ _ _ _ _ (inv k) (some k) (octets k) _ (says k) _ _ _ _ (item k) _ _ _ (attributed d) (c .if1 .left), inv k .few)
 
 sub-left : tie.Need-sub-left Inv-loop μ-loop
-sub-left c = omega (arith, some (c .before .before .before .before .before .before .before .before .before .before .before .before .before .before .before .before))
+sub-left c = omega (arith, some (c .before .before .before .before .before .before .before))
 
 loop-less : tie.Need-loop-less Inv-loop μ-loop
-loop-less c = omega (arith, some (c .before .before .before .before .before .before .before .before .before .before .before .before .before .before .before .before))
+loop-less c = omega (arith, some (c .before .before .before .before .before .before .before))
 
 loop-again : tie.Need-loop-again Inv-loop μ-loop
-loop-again c = let d = c .before .before .before .before .before .before .before in
-    let g = d .before .before .before .before .before in
-    let k = g .before .before .before .before in
-    let e = g .before .before .head-len .ensures in
-    (rw e (transcribing-more _ _ _ _ _ (inv k) (some k) (octets k) _ (says k) _ _ _ _ (item k) _ _ _ _ (valued d) (c .before .before .before .before .if1 .left) _ (room k) (g .before .before .before .least .ensures ∙ ap (λ (n : ℕ). min (k .before .before .before .before .before .loop .written) (n - 263)) (sym (kept k))) (g .put-front .ensures) (rw e at (c .before .before .put-lengths .ensures))), c .before .before .put-lengths .kept .0 ∙ d .put-value .kept .0 ∙ g .put-front .kept .0 ∙ kept k)
+loop-again c = let d = c .before .before .before in
+    let k = d .before .before .before .before in
+    (transcribing-more _ _ _ _ _ (inv k) (some k) (octets k) _ (says k) _ _ _ _ (item k) _ _ _ (attributed d) (c .if1 .left) (room k) (d .before .before .before .least .ensures ∙ ap (λ (n : ℕ). min (k .before .before .before .before .before .loop .written) (n - 263)) (sym (kept k))), d .put-attribute .kept .0 ∙ kept k)
 
 enum-known-refusal : tie.Need-enum-known-refusal Inv-loop μ-loop
 enum-known-refusal c = search needs
@@ -163,11 +136,14 @@ returns-2 : tie.Need-returns-2 Inv-loop μ-loop
 returns-2 c = let l = c .before .before .before .before .before .before .before .before .before .args .sheet .now in
     transcribing-refused _ _ _ _ _ (c .before .before .before .before .before .loop .inv .0) (omega (arith, c .before .before .before .before .loop-test .taken)) (slice-octets l (c .before .before .before .before .before .before .before .before .shared-slice-known .given)) _ (c .before .before .before .head-at .ensures) _ _ (c .before .refusal .given .1)
 
+broken-requires-2 : tie.Need-broken-requires-2 Inv-loop μ-loop
+broken-requires-2 c κs = search needs
+
 same-length-3 : tie.Need-same-length-3 Inv-loop μ-loop
-same-length-3 c = c .before .before .loop .inv .1
+same-length-3 c = c .before .before .before .loop .inv .1
 
 returns-3 : tie.Need-returns-3 Inv-loop μ-loop
-returns-3 c = transcribing-remains _ _ _ _ _ (c .before .before .loop .inv .0) (omega (arith, c .before .loop-test .left)) (omega arith)
+returns-3 c = rw (c .broken2 .ensures) (transcribing-remains _ _ _ _ _ (c .before .before .before .loop .inv .0) (omega (arith, c .before .before .loop-test .left)) (c .before .if2 .taken))
 
 same-length-4 : tie.Need-same-length-4 Inv-loop μ-loop
 same-length-4 c = c .before .before .loop .inv .1
@@ -188,25 +164,23 @@ transcribe-spec =
     head-at-requires
     enum-known-number
     least-requires
-    head-len-requires
-    put-front-requires
-    add-put-value
-    add-put-value-2
-    sub-put-value
-    part-put-value-start
-    part-put-value-end
-    put-value-requires
+    add-behind
+    sub-rest
+    part-rest-start
+    part-rest-end
+    sub-put-attribute
+    put-attribute-requires
+    broken-requires
     same-length
     returns
-    put-lengths-requires
     add-written
-    add-written-2
     sub-left
     loop-less
     loop-again
     enum-known-refusal
     same-length-2
     returns-2
+    broken-requires-2
     same-length-3
     returns-3
     same-length-4

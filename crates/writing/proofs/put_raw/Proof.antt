@@ -1,0 +1,55 @@
+-- No such value, or the value with what stands behind it, or the value alone. Assumes nothing.
+use borrow.Author.Needs.{needs}
+use borrow.Author.Tests.{not-true, not-false}
+use mathlib.Core.Path.{sym, _∙_}
+use lib.Seq.{length-take-le}
+use Rattle.writing.proofs.Valuing.{laying-none, raw-sixteen, raw-alone}
+use Rattle.writing.proofs.put_raw.Statement.{statement}
+use Rattle.writing.proofs.put_raw.Tie as tie
+
+slice-aggregate-is-raw : tie.Need-slice-aggregate-is-raw
+slice-aggregate-is-raw c = sym (length-take-le _ _ (c .before .before .before .pre .0))
+
+is-raw-requires : tie.Need-is-raw-requires
+is-raw-requires c κs = search needs
+
+returns : tie.Need-returns
+returns c = laying-none _ _ _ _ _ (sym (c .before .is-raw .ensures) ∙ not-true _ (c .if1 .taken))
+
+copy-sixteen-requires : tie.Need-copy-sixteen-requires
+copy-sixteen-requires c κs = search needs
+
+slice-aggregate-copy-at : tie.Need-slice-aggregate-copy-at
+slice-aggregate-copy-at c = sym (length-take-le _ _ (c .before .before .before .before .before .before .before .before .pre .0))
+
+copy-at-requires : tie.Need-copy-at-requires
+copy-at-requires c κs = search needs
+
+same-length : tie.Need-same-length
+same-length c = search needs
+
+returns-2 : tie.Need-returns-2
+returns-2 c = let p = c .before .before .before .before .before .before .before .before .before .before .pre in
+    raw-sixteen _ _ _ _ _ _ _ _ (p .0) (p .1) (sym (c .before .before .before .before .before .before .is-raw .ensures) ∙ not-false _ (c .before .before .before .before .before .if1 .left)) (c .before .before .before .before .if2 .taken) (c .before .before .copy-sixteen .ensures .holds)
+
+same-length-2 : tie.Need-same-length-2
+same-length-2 c = search needs
+
+returns-3 : tie.Need-returns-3
+returns-3 c = let p = c .before .before .before .before .before .before .before .before .before .before .before .pre in
+    raw-alone _ _ _ _ _ _ _ _ (p .0) (p .1) (sym (c .before .before .before .before .before .before .before .is-raw .ensures) ∙ not-false _ (c .before .before .before .before .before .before .if1 .left)) (c .before .before .copy-at .ensures .holds)
+
+pub put-raw-spec : {M : Type 1} → statement M
+put-raw-spec =
+    tie.close
+    (tie.spec
+    slice-aggregate-is-raw
+    is-raw-requires
+    returns
+    copy-sixteen-requires
+    slice-aggregate-copy-at
+    copy-at-requires
+    same-length
+    returns-2
+    same-length-2
+    returns-3)
