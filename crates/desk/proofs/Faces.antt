@@ -6,12 +6,12 @@ use native.Mathlib.Omega.{arith}
 use lib.ListN.{length}
 use Rattle.meaning.specs.Answers.{Answer, given, refused, Written, readAnswer, checkAnswer, writeAnswer}
 use Rattle.area.specs.declared.Refusal as below
-use Rattle.sheet.specs.declared.Reading as sheet-reading
-use Rattle.sheet.specs.declared.Reading.the-variants as sheet
-use Rattle.sheet.specs.Answers as sheet-answers
-use Rattle.breach.specs.declared.Checking as breach-checking
-use Rattle.breach.specs.declared.Checking.the-variants as breach
-use Rattle.breach.specs.Answers as breach-answers
+use Rattle.reading.specs.declared.Reading as sheet-reading
+use Rattle.reading.specs.declared.Reading.the-variants as sheet
+use Rattle.reading.specs.Answers as sheet-answers
+use Rattle.checking.specs.declared.Checking as breach-checking
+use Rattle.checking.specs.declared.Checking.the-variants as breach
+use Rattle.checking.specs.Answers as breach-answers
 use Rattle.writing.specs.declared.Writing as writing-writing
 use Rattle.writing.specs.declared.Writing.the-variants as writing
 use Rattle.writing.specs.Answers as writing-answers
@@ -39,7 +39,7 @@ reading-refused : (a : Answer (List ℕ)) (r : below.Refusal) → sheet.Refused 
 reading-refused (given s) r e = absurd (let z : _≡_ {A = ℕ} 0 1 = cc in omega arith)
 reading-refused (refused k s) r e = let q : r ≡ record { number = k; second = s } = cc in ap (λ (x : below.Refusal). reading-is.Refused (faced x)) q
 
--- what `sheet::read` answers, by its case
+-- what `reading::read` answers, by its case
 module _ (kind flags : ℕ) (area d : List ℕ) (said : sheet-reading.Reading) (held : List ℕ) (r : sheet-answers.Read kind flags area d said held) where
   pub read-done : (n : ℕ) → said ≡ sheet.Sheet n → Read kind flags area d (reading-is.Sheet n) held
   read-done n q = record { says = sheet-said (readAnswer kind flags area (length d)) n (sym q ∙ r .says); holds = r .holds }
@@ -57,7 +57,7 @@ checking-refused : (a : Answer (List ℕ)) (r : below.Refusal) → breach.Refuse
 checking-refused (given s) r e = absurd (let z : _≡_ {A = ℕ} 0 1 = cc in omega arith)
 checking-refused (refused k s) r e = let q : r ≡ record { number = k; second = s } = cc in ap (λ (x : below.Refusal). checking-is.Refused (faced x)) q
 
--- what `breach::check` answers, by its case
+-- what `checking::check` answers, by its case
 module _ (kind flags : ℕ) (area d : List ℕ) (said : breach-checking.Checking) (held : List ℕ) (r : breach-answers.Checked kind flags area d said held) where
   pub check-done : (n : ℕ) → said ≡ breach.List n → Checked kind flags area d (checking-is.List n) held
   check-done n q = record { says = list-said (checkAnswer kind flags area (length d)) n (sym q ∙ r .says); holds = r .holds }

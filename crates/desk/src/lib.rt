@@ -43,11 +43,11 @@ pub struct Answer {
 pub fn read(area: &[u8], kind: u32, flags: u32, sheet: &mut [u8]) -> Reading
     ensures { λ r. ⌜ Read kind flags (now (area .entry)) (now (sheet .entry)) r (now (sheet .exit)) ⌝ }
 {
-    match sheet::read(area, kind, flags, sheet) {
-        sheet::Reading::Sheet(length) => {
+    match reading::read(area, kind, flags, sheet) {
+        reading::Reading::Sheet(length) => {
             return Reading::Sheet(length);
         }
-        sheet::Reading::Refused(refusal) => {
+        reading::Reading::Refused(refusal) => {
             return Reading::Refused(Refusal {
                 number: refusal.number,
                 second: refusal.second,
@@ -60,11 +60,11 @@ pub fn read(area: &[u8], kind: u32, flags: u32, sheet: &mut [u8]) -> Reading
 pub fn check(area: &[u8], kind: u32, flags: u32, list: &mut [u32]) -> Checking
     ensures { λ r. ⌜ Checked kind flags (now (area .entry)) (now (list .entry)) r (now (list .exit)) ⌝ }
 {
-    match breach::check(area, kind, flags, list) {
-        breach::Checking::List(length) => {
+    match checking::check(area, kind, flags, list) {
+        checking::Checking::List(length) => {
             return Checking::List(length);
         }
-        breach::Checking::Refused(refusal) => {
+        checking::Checking::Refused(refusal) => {
             return Checking::Refused(Refusal {
                 number: refusal.number,
                 second: refusal.second,

@@ -1,4 +1,4 @@
--- The cases of `breach::check`, as the desk's. Assumes nothing.
+-- The cases of `checking::check`, as the desk's. Assumes nothing.
 use borrow.Author.Needs.{needs}
 use Rattle.desk.proofs.Faces.{check-done, check-refused}
 use Rattle.desk.proofs.check.Statement.{statement}

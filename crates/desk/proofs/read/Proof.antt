@@ -1,4 +1,4 @@
--- The cases of `sheet::read`, as the desk's. Assumes nothing.
+-- The cases of `reading::read`, as the desk's. Assumes nothing.
 use borrow.Author.Needs.{needs}
 use Rattle.desk.proofs.Faces.{read-done, read-refused}
 use Rattle.desk.proofs.read.Statement.{statement}
