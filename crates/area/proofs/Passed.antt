@@ -1,15 +1,12 @@
--- What the loop of `survey` has passed. Assumes nothing.
-use mathlib.Core.Path.{_≡_, refl, sym, ap, ap₂, _∙_}
+-- What a walk from the left has passed: so many attributes, up to a place. Assumes nothing.
+use mathlib.Core.Path.{_≡_, refl, ap, _∙_}
 use mathlib.Core.List.{List}
 use Prim.Native.Nat.{ℕ, _+_, _≤_}
 use native.Mathlib.Omega.{arith}
 use lib.ListN.{length}
-use Rattle.meaning.specs.Framing.{Walk, end, broken, walkAt, walk, attributes}
+use Rattle.meaning.specs.Framing.{Walk, walkAt, walk, attributes}
 use Rattle.meaning.specs.Refusals.{fault}
-use Rattle.area.specs.Answers.{framingFrom, framingOf}
-use Rattle.area.specs.declared.Refusal.{Refusal}
 use Rattle.area.specs.declared.Part.{Part}
-use Rattle.area.specs.declared.Framing.the-variants.{Whole, Broken}
 use Rattle.area.proofs.Steps.{Stands}
 
 -- So many attributes of the area l stand before a place: the fault, if any, and the other attributes are found from there on.
@@ -35,20 +32,3 @@ module _ (l : List ℕ) (count place : ℕ) (passed : Passed l count place) wher
         same-fault = passed .same-fault ∙ ap fault (s .walks);
         counted = omega (arith, ap (λ (w : Walk). length (attributes w)) (s .walks));
       }
-
-  -- the whole framing, by what is left
-  framing-from : framingOf (walk l) ≡ framingFrom (fault (walkAt l place)) (count + length (attributes (walkAt l place)))
-  unfolding framingOf
-  framing-from = ap₂ framingFrom (passed .same-fault) (passed .counted)
-
-  -- a refusal
-  pub passed-broken : (refused : Refusal) → walkAt l place ≡ broken (refused .number) (refused .second) → Broken refused ≡ framingOf (walk l)
-  unfolding fault
-  passed-broken refused e = sym (framing-from ∙ ap (λ (w : Walk). framingFrom (fault w) (count + length (attributes w))) e)
-
-  -- the end
-  pub passed-all : walkAt l place ≡ end → Whole count ≡ framingOf (walk l)
-  unfolding fault attributes
-  passed-all e =
-      sym
-      (framing-from ∙ ap (λ (w : Walk). framingFrom (fault w) (count + length (attributes w))) e ∙ ap Whole (omega arith))

@@ -1,21 +1,18 @@
--- What the answers of this crate stand for, in the words of the meaning: a step by what stands at a place, the framing of an area by
--- its walk. Assumes nothing.
+-- What the answers of this crate stand for, in the words of the meaning: a step by what stands at a place, an arrival by the first of
+-- refusals 1 to 3. Assumes nothing.
 use Prim.Native.Nat.{ℕ, _+_, _-_}
-use mathlib.Core.Bool.{cond, not, _&&_}
+use mathlib.Core.Bool.{cond, _&&_}
 use mathlib.Core.List.{List}
 use lib.Dec.{eqb, ltb}
 use lib.ListN.{length, getD}
 use Rattle.meaning.specs.Octets.{numberOf}
-use Rattle.meaning.specs.Jobs.{isKind, areFlags}
-use Rattle.meaning.specs.Framing.{headLength, gpp, vendor3gpp, Found, attribute, refused, nothing, Walk, walk, attributes}
+use Rattle.meaning.specs.Framing.{headLength, gpp, vendor3gpp, Found, attribute, refused, nothing}
 use Rattle.octets.specs.Parts.{partOf}
 use Rattle.meaning.specs.Refusals as book
 use Rattle.area.specs.declared.Refusal.{Refusal}
 use Rattle.area.specs.declared.Carried.{Carried}
 use Rattle.area.specs.declared.Step.{Step}
 use Rattle.area.specs.declared.Step.the-variants.{Attribute, Refused, End}
-use Rattle.area.specs.declared.Framing.{Framing}
-use Rattle.area.specs.declared.Framing.the-variants.{Whole, Broken}
 use Rattle.area.specs.declared.Arrival.{Arrival}
 use Rattle.area.specs.declared.Arrival.the-variants as arrival
 
@@ -29,25 +26,14 @@ stepOf p nothing = End
 abbrev pub inBook : Refusal → book.Refusal
 inBook r = book.refusal (r .number) (r .second)
 
--- the refusal, or the number of attributes where there is none
-abbrev pub framingFrom : book.Refusal → (count : ℕ) → Framing
-framingFrom book.none n = Whole n
-framingFrom (book.refusal k s) n = Broken (record { number = k; second = s })
-
--- the framing of an area, by its walk
-unfoldable pub framingOf : Walk → Framing
-framingOf w = framingFrom (book.fault w) (length (attributes w))
-
 -- what comes with an area, by its refusal, if any
 abbrev pub arrivalFrom : book.Refusal → Arrival
 arrivalFrom book.none = arrival.Fit
 arrivalFrom (book.refusal k s) = arrival.Refused (record { number = k; second = s })
 
 -- kind, flags and the length of an area, by the first of 1 to 3 that applies
-unfoldable pub arrivalOf : (kind flags length : ℕ) → Arrival
-arrivalOf kind flags length =
-    arrivalFrom
-    (book.first (book.when (not (isKind kind)) 1 0) (book.first (book.when (not (areFlags flags)) 2 0) (book.tooLong 3 length)))
+unfoldable pub arrivalOf : (kind flags size : ℕ) → Arrival
+arrivalOf kind flags size = arrivalFrom (book.first (book.kindRefusal kind flags) (book.tooLong 3 size))
 
 -- the number that is carried at a place: of type 26 with vendor 10415 the sub-attribute's, else the type
 unfoldable pub numberAt : List ℕ → (place : ℕ) → ℕ

@@ -1,11 +1,11 @@
-// The framing of an attribute area: what stands at a place of it, and whether it is well framed.
+// The framing of an attribute area: what stands at a place of it, and whether what comes with it is fit.
 ghost use mathlib.Core.Path.{_≡_};
 ghost use Prim.Native.Nat.{_+_, _-_, _^_, _<_, _≤_};
 ghost use lib.ListN.{length, drop};
 ghost use Rattle.meaning.specs.Jobs.{isKind, areFlags};
-ghost use Rattle.meaning.specs.Framing.{headLength, vendorFound, foundAt, walk};
+ghost use Rattle.meaning.specs.Framing.{headLength, vendorFound, foundAt};
 ghost use Rattle.meaning.specs.Framing as meant;
-ghost use Rattle.area.specs.Answers.{stepOf, framingOf, numberAt, carriedAt, arrivalOf};
+ghost use Rattle.area.specs.Answers.{stepOf, numberAt, carriedAt, arrivalOf};
 
 // A refusal of the book: its number and its second number.
 pub struct Refusal {
@@ -36,12 +36,6 @@ pub struct Carried {
     pub number: u16,
     pub value: Part,
     pub next: usize,
-}
-
-// The framing of a whole area: how many attributes it has, or the first refusal.
-pub enum Framing {
-    Whole(usize),
-    Broken(Refusal),
 }
 
 // Whether an area comes with a kind, flags and a length that are allowed.
@@ -138,32 +132,6 @@ pub fn step_at(area: &[u8], place: usize) -> Step
         vendor_step(area, place, size)
     } else {
         attribute(plain(t), place, 2, size)
-    }
-}
-
-// The framing of a whole area.
-pub fn survey(area: &[u8]) -> Framing
-    ensures { λ r. ⌜ r ≡ framingOf (walk (now (area .entry))) ⌝ }
-{
-    let mut place: usize = 0;
-    let mut count: usize = 0;
-    loop {
-        match step_at(area, place) {
-            Step::Attribute {
-                number: _,
-                value: _,
-                next,
-            } => {
-                place = next;
-                count += 1;
-            }
-            Step::Refused(refusal) => {
-                return Framing::Broken(refusal);
-            }
-            Step::End => {
-                return Framing::Whole(count);
-            }
-        }
     }
 }
 

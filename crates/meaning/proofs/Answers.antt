@@ -1,5 +1,5 @@
 -- The answers of the three jobs, exactly: when each is given and when refused. Assumes nothing.
-use mathlib.Core.Path.{_≡_, refl, sym, subst}
+use mathlib.Core.Path.{_≡_, refl, sym, subst, _∙_}
 use mathlib.Core.Logic.{_↔_}
 use mathlib.Core.List.{List}
 use Prim.Native.Nat.{ℕ, _≤_}
@@ -13,10 +13,15 @@ use Rattle.meaning.specs.Framing.{walk, attributes}
 use Rattle.meaning.specs.Refusals.{Refusal, none, refusal, first, tooShort, areaRefusal, areaOrder}
 use Rattle.meaning.specs.Sheet.{sheetOf, Readable, kindIn, flagsIn, areaIn, judged}
 use Rattle.meaning.specs.Breaches.{Breach, Lists}
-use Rattle.meaning.specs.Answers.{given, refused, unless, over, after, readAnswer, checkAnswer, listOf, Written, writeAnswer}
+use Rattle.meaning.specs.Answers.{Answer, given, refused, unless, over, after, readAnswer, checkAnswer, listOf, Written, writeAnswer, Promise}
 use Rattle.meaning.proofs.Sheets.{first-none, when-is-none, sheet-goes-back, accepted-sheet}
 use Rattle.meaning.proofs.Rising.{one-list}
 use Rattle.meaning.proofs.Placed.{list-lists}
+
+-- Any two answers that a promise permits for one input are the same, and so is what the lent buffer holds after them.
+module _ {X : Type 0} (answer : X) (lays : Answer (List ℕ)) (buffer : List ℕ) (said said′ : X) (held held′ : List ℕ) where
+  pub one-answer : Promise answer lays buffer said held → Promise answer lays buffer said′ held′ → (said ≡ said′) × (held ≡ held′)
+  one-answer p q = (p .says ∙ sym (q .says), p .holds ∙ sym (q .holds))
 
 -- what was asked for is given where nothing applies
 pub unless-given : {A : Type 0} (r : Refusal) (a b : A) → unless r a ≡ given b → (r ≡ none) × (a ≡ b)

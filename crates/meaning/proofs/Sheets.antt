@@ -13,7 +13,7 @@ use lib.Seq.{drop-cons, drop-drop, length-take-le}
 use Rattle.meaning.specs.Octets.{Octets, same, numberOf, octetsOf}
 use Rattle.meaning.specs.Jobs.{isKind, areFlags}
 use Rattle.meaning.specs.Framing.{isPlain, Attribute, Walk, walkAt, walk, attributes}
-use Rattle.meaning.specs.Refusals.{Refusal, none, refusal, when, first, fault, tooLong, areaRefusal, sheetRefusal}
+use Rattle.meaning.specs.Refusals.{Refusal, none, refusal, when, first, fault, tooLong, kindRefusal, framingRefusal, areaRefusal, sheetRefusal}
 use Rattle.meaning.specs.Sheet.{mark, itemsOf, sheetWith, sheetOf, Readable, Writable, attributeOctets, areaOf, items, itemsIn, kindIn, flagsIn, areaIn, marked, judged}
 use Rattle.meaning.proofs.Tests.{parts, is-true, passes, same-one}
 use Rattle.meaning.proofs.Numbers.{number-back, octets-back}
@@ -44,15 +44,20 @@ when-is-none true n s e = no-refusal n s e
 when-is-none false n s e = refl
 
 pub clear : (kind flags : ℕ) (area : List ℕ) → areaRefusal kind flags area ≡ none → Clear kind flags area
-unfolding areaRefusal
+unfolding areaRefusal kindRefusal framingRefusal
 clear kind flags area e =
-    let a = when-none (not (isKind kind)) 1 0 (first (when (not (areFlags flags)) 2 0) (first (tooLong 3 (length area)) (fault (walk area)))) e in
-    let b = when-none (not (areFlags flags)) 2 0 (first (tooLong 3 (length area)) (fault (walk area))) (a .1) in
-    let c = when-none (ltb 4076 (length area)) 3 (length area) (fault (walk area)) (b .1) in
-    record { kind-ok = not-false (isKind kind) (a .0); flags-ok = not-false (areFlags flags) (b .0); short = ltb-false 4076 (length area) (c .0); sound = c .1 }
+    let r = first-none (kindRefusal kind flags) (framingRefusal area) e in
+    let a = when-none (not (isKind kind)) 1 0 (when (not (areFlags flags)) 2 0) (r .0) in
+    let c = when-none (ltb 4076 (length area)) 3 (length area) (fault (walk area)) (r .1) in
+    record {
+      kind-ok = not-false (isKind kind) (a .0);
+      flags-ok = not-false (areFlags flags) (when-is-none (not (areFlags flags)) 2 0 (a .1));
+      short = ltb-false 4076 (length area) (c .0);
+      sound = c .1;
+    }
 
 pub clear-read : (kind flags : ℕ) (area : List ℕ) → Clear kind flags area → areaRefusal kind flags area ≡ none
-unfolding areaRefusal
+unfolding areaRefusal kindRefusal framingRefusal
 clear-read kind flags area c = rw (c .kind-ok, c .flags-ok, le-ltb 4076 (length area) (c .short)) (c .sound)
 
 -- ---- There

@@ -1,4 +1,5 @@
 -- The answers of the desk's three jobs for any input and any room, and what the lent buffer holds after. Assumes nothing.
+use mathlib.Core.Path.{_≡_}
 use Prim.Native.Nat.{ℕ}
 use mathlib.Core.List.{List, _++_}
 use lib.ListN.{length, drop}
@@ -25,6 +26,11 @@ over s d = s ++ drop (length s) d
 unfoldable pub after : Answer (List ℕ) → (buffer : List ℕ) → List ℕ
 after (given s) d = over s d
 after (refused n s) d = d
+
+-- what a job promises for one input: what it says, and what the lent buffer holds then
+pub record Promise {X : Type 0} (answer : X) (lays : Answer (List ℕ)) (buffer : List ℕ) (said : X) (held : List ℕ) : Type 0 where
+  pub says : said ≡ answer
+  pub holds : held ≡ after lays buffer
 
 -- "Read: attribute area, kind and flags give a sheet"
 unfoldable pub readAnswer : (kind flags : ℕ) (area : List ℕ) (room : ℕ) → Answer (List ℕ)

@@ -24,3 +24,12 @@ chap f = eqb (f / 2 % 2) 1
 -- "4 Class was received in the Access-Accept"
 abbrev pub class : ℕ → Bool
 class f = eqb (f / 4 % 2) 1
+
+-- what comes with an area that is checked: its kind and flags
+pub record Context : Type 0 where
+  pub kind : ℕ
+  pub flags : ℕ
+
+-- kind and flags, as they come with an area
+abbrev pub comes : (kind flags : ℕ) → Context
+comes k f = record { kind = k; flags = f }

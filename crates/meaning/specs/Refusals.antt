@@ -37,11 +37,17 @@ tooShort n needed room = when (ltb room needed) n needed
 abbrev pub tooLong : (number length : ℕ) → Refusal
 tooLong n len = when (ltb 4076 len) n len
 
+-- "3, then the first attribute from the left that fails, tested 4 to 8": what the framing alone refuses
+unfoldable pub framingRefusal : List ℕ → Refusal
+framingRefusal area = first (tooLong 3 (length area)) (fault (walk area))
+
+-- 1 and 2: what a kind and flags are refused for
+unfoldable pub kindRefusal : (kind flags : ℕ) → Refusal
+kindRefusal kind flags = first (when (not (isKind kind)) 1 0) (when (not (areFlags flags)) 2 0)
+
 -- "Order for read and check: 1, 2, 3, then the first attribute from the left that fails"
 unfoldable pub areaRefusal : (kind flags : ℕ) → List ℕ → Refusal
-areaRefusal kind flags area =
-    first (when (not (isKind kind)) 1 0)
-    (first (when (not (areFlags flags)) 2 0) (first (tooLong 3 (length area)) (fault (walk area))))
+areaRefusal kind flags area = first (kindRefusal kind flags) (framingRefusal area)
 
 -- the order for read and check, to its end: "then 9 (read) or 10 (check)", whose number is given
 unfoldable pub areaOrder : (kind flags : ℕ) → List ℕ → (number needed room : ℕ) → Refusal
