@@ -9,6 +9,7 @@ use borrow.Author.Tests.{le-ltb, ltb-false}
 use lib.ListN.{length, take, drop, length-append, length-drop}
 use lib.Seq.{take-at, drop-at}
 use Rattle.meaning.specs.Octets.{Octets}
+use Rattle.meaning.specs.Versions.{current}
 use Rattle.meaning.specs.Framing.{walk, attributes}
 use Rattle.meaning.specs.Refusals.{Refusal, none, refusal, first, tooShort, areaRefusal, areaOrder}
 use Rattle.meaning.specs.Sheet.{sheetOf, Readable, kindIn, flagsIn, areaIn, judged}
@@ -86,7 +87,7 @@ module _ (kind flags : ℕ) (area : List ℕ) (room : ℕ) where
 pub written-back : (kind flags : ℕ) (area : List ℕ) (room : ℕ) → Readable kind flags area → length area ≤ room → writeAnswer (sheetOf kind flags area) room ≡ given (record { kind = kind; flags = flags; area = area })
 unfolding writeAnswer
 written-back kind flags area room r h =
-    let s = sheet-goes-back kind flags area r in
+    let s = sheet-goes-back current kind flags area r in
     rw (s .accepted, s .area-is, s .kind-is, s .flags-is, le-ltb room (length area) h)
 
 -- what is written reads as the sheet

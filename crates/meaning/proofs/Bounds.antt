@@ -11,47 +11,47 @@ use borrow.Author.Tests.{ltb-true}
 use lib.ListN.{length, length-append}
 use Rattle.meaning.specs.Octets.{Octets, octetsOf}
 use Rattle.meaning.specs.Jobs.{isKind, areFlags}
-use Rattle.meaning.specs.Framing.{isPlain, Attribute, walkAt, walk, attributes}
-use Rattle.meaning.specs.Sheet.{typeOf, subOf, form, count, item, itemsOf, sheetWith, sheetOf, Readable, attributeOctets, areaOf}
+use Rattle.meaning.specs.Versions.{Version, one}
+use Rattle.meaning.specs.Framing.{isPlain, Attribute, attributeOctets, areaOf, Carried, All, walk, attributes}
+use Rattle.meaning.specs.Sheet.{typeOf, subOf, form, count, item, itemsOf, sheetHead, sheetWith, sheetAs, Readable}
 use Rattle.meaning.specs.Breaches.{Among}
 use Rattle.meaning.proofs.Tests.{parts, passes, in-among}
 use Rattle.meaning.proofs.Octets.{octets-append}
 use Rattle.meaning.proofs.Numbers.{octets-octets}
 use Rattle.meaning.proofs.Forms.{stored-le, count-le, stored-octets, form-range}
 use Rattle.meaning.proofs.Framing.{plain-lines, gpp-lines}
-use Rattle.meaning.proofs.RoundTrip.{Carried, All, walked}
+use Rattle.meaning.proofs.Walked.{walked-area, area-back}
 use Rattle.meaning.proofs.Sheets.{clear, attribute-length, area-long}
 
 -- ---- The length
 
-item-bound : (n : ℕ) (v : List ℕ) → length (item n v) ≤ 2 * length (attributeOctets n v)
+item-bound : (ver : Version) (n : ℕ) (v : List ℕ) → length (item ver n v) ≤ 2 * length (attributeOctets n v)
 unfolding item
-item-bound n v = omega (arith, stored-le n v, attribute-length n v)
+item-bound ver n v = omega (arith, stored-le ver n v, attribute-length n v)
 
-items-bound : (l : List Attribute) → length (itemsOf l) ≤ 2 * length (areaOf l)
+items-bound : (ver : Version) (l : List Attribute) → length (itemsOf ver l) ≤ 2 * length (areaOf l)
 unfolding itemsOf areaOf
-items-bound [] = omega arith
-items-bound (a ∷ l) =
-    omega (arith, items-bound l, item-bound (a .number) (a .value), length-append (item (a .number) (a .value)) (itemsOf l), length-append (attributeOctets (a .number) (a .value)) (areaOf l))
+items-bound ver [] = omega arith
+items-bound ver (a ∷ l) =
+    omega (arith, items-bound ver l, item-bound ver (a .number) (a .value), length-append (item ver (a .number) (a .value)) (itemsOf ver l), length-append (attributeOctets (a .number) (a .value)) (areaOf l))
 
-pub sheet-length : (kind flags : ℕ) (l : List Attribute) → length (sheetWith kind flags l) ≡ 9 + length (itemsOf l)
-unfolding sheetWith octetsOf
-sheet-length kind flags l = omega arith
+pub sheet-length : (ver : Version) (kind flags : ℕ) (l : List Attribute) → length (sheetWith ver kind flags l) ≡ 9 + length (itemsOf ver l)
+unfolding sheetWith sheetHead octetsOf
+sheet-length ver kind flags l = omega arith
 
 -- The sheet of a readable area is never longer than 9 + 2 x area length.
-pub sheet-bound : (kind flags : ℕ) (area : List ℕ) → Readable kind flags area → length (sheetOf kind flags area) ≤ 9 + 2 * length area
-unfolding sheetOf walk walkAt
-sheet-bound kind flags area r =
+pub sheet-bound : (ver : Version) (kind flags : ℕ) (area : List ℕ) → Readable kind flags area → length (sheetAs ver kind flags area) ≤ 9 + 2 * length area
+unfolding sheetAs
+sheet-bound ver kind flags area r =
     let c = clear kind flags area (r .accepted) in
-    let e : areaOf (attributes (walk area)) ≡ area = walked 0 0 area (r .octets) (omega arith) .area-is (c .sound) in
-    omega (arith, sheet-length kind flags (attributes (walk area)), items-bound (attributes (walk area)), ap length e)
+    let e : areaOf (attributes (walk area)) ≡ area = area-back area (r .octets) (c .sound) in
+    omega (arith, sheet-length ver kind flags (attributes (walk area)), items-bound ver (attributes (walk area)), ap length e)
 
 -- It has at most 2,038 items, so that their number fits 16 bits.
 pub items-fit : (kind flags : ℕ) (area : List ℕ) → Readable kind flags area → length (attributes (walk area)) ≤ 2038
-unfolding walk walkAt
 items-fit kind flags area r =
     let c = clear kind flags area (r .accepted) in
-    let e : areaOf (attributes (walk area)) ≡ area = walked 0 0 area (r .octets) (omega arith) .area-is (c .sound) in
+    let e : areaOf (attributes (walk area)) ≡ area = area-back area (r .octets) (c .sound) in
     omega (arith, area-long (attributes (walk area)), ap length e, c .short)
 
 -- ---- The octets
@@ -64,8 +64,8 @@ value-short a c = go (isPlain (a .number)) refl
     go false p = let h : length (a .value) ≤ 246 = gpp-lines (a .number) (a .value) p (c .carried) in omega arith
 
 -- The count of a carried attribute's item fits 8 bits.
-pub count-fits : (a : Attribute) → Carried a → count (a .number) (a .value) < 256
-count-fits a c = omega (arith, count-le (a .number) (a .value), value-short a c)
+pub count-fits : (ver : Version) (a : Attribute) → Carried a → count ver (a .number) (a .value) < 256
+count-fits ver a c = omega (arith, count-le ver (a .number) (a .value), value-short a c)
 
 type-low : (n : ℕ) → typeOf n < 256
 type-low n = go (isPlain n) refl
@@ -81,19 +81,19 @@ sub-low n h = go (isPlain n)
     go true = omega arith
     go false = omega arith
 
-form-octet : (n : ℕ) (v : List ℕ) → form n v < 256
-form-octet n v = omega (arith, form-range n v)
+form-octet : (ver : Version) (n : ℕ) (v : List ℕ) → form ver n v < 256
+form-octet ver n v = omega (arith, form-range ver n v)
 
 -- An item of a carried attribute is made of octets.
-pub item-octets : (a : Attribute) → Carried a → Octets (item (a .number) (a .value))
+pub item-octets : (ver : Version) (a : Attribute) → Carried a → Octets (item ver (a .number) (a .value))
 unfolding item
-item-octets a c =
-    (type-low (a .number), (sub-low (a .number) (c .low), (form-octet (a .number) (a .value), (count-fits a c, stored-octets (a .number) (a .value) (c .octets)))))
+item-octets ver a c =
+    (type-low (a .number), (sub-low (a .number) (c .low), (form-octet ver (a .number) (a .value), (count-fits ver a c, stored-octets ver (a .number) (a .value) (c .octets)))))
 
-items-octets : (l : List Attribute) → All Carried l → Octets (itemsOf l)
+items-octets : (ver : Version) (l : List Attribute) → All Carried l → Octets (itemsOf ver l)
 unfolding itemsOf
-items-octets [] c = tt
-items-octets (a ∷ l) c = octets-append (item (a .number) (a .value)) (itemsOf l) (item-octets a (c .0)) (items-octets l (c .1))
+items-octets ver [] c = tt
+items-octets ver (a ∷ l) c = octets-append (item ver (a .number) (a .value)) (itemsOf ver l) (item-octets ver a (c .0)) (items-octets ver l (c .1))
 
 pub kind-octet : (kind : ℕ) → isKind kind ≡ true → kind < 256
 unfolding isKind
@@ -113,10 +113,10 @@ flags-octet flags e = go (in-among flags (0 ∷ 1 ∷ 2 ∷ 4 ∷ 5 ∷ 6 ∷ []
     go (inr (inr (inr (inr (inr (inr p)))))) = absurd p
 
 -- The sheet of a readable area is made of octets.
-pub sheet-octets : (kind flags : ℕ) (area : List ℕ) → Readable kind flags area → Octets (sheetOf kind flags area)
-unfolding sheetOf sheetWith walk walkAt
-sheet-octets kind flags area r =
+pub sheet-octets : (ver : Version) (kind flags : ℕ) (area : List ℕ) → Readable kind flags area → Octets (sheetAs ver kind flags area)
+unfolding sheetAs sheetWith sheetHead octetsOf
+sheet-octets ver kind flags area r =
     let c = clear kind flags area (r .accepted) in
-    let w = walked 0 0 area (r .octets) (omega arith) in
+    let w = walked-area area (r .octets) in
     let l : List Attribute = attributes (walk area) in
-    (omega arith, (omega arith, (omega arith, (omega arith, (omega arith, (kind-octet kind (c .kind-ok), (flags-octet flags (c .flags-ok), octets-append (octetsOf 2 (length l)) (itemsOf l) (octets-octets 2 (length l)) (items-octets l (w .carried)))))))))
+    (omega arith, (omega arith, (omega arith, (omega arith, (omega arith, (kind-octet kind (c .kind-ok), (flags-octet flags (c .flags-ok), octets-append (octetsOf 2 (length l)) (itemsOf ver l) (octets-octets 2 (length l)) (items-octets ver l (w .carried)))))))))

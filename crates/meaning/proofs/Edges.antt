@@ -4,9 +4,10 @@ use mathlib.Core.Path.{_≡_, refl}
 use mathlib.Core.List.{List, [], _∷_, _++_, map}
 use Prim.Native.Nat.{ℕ, _*_}
 use lib.ListN.{replicate}
-use Rattle.meaning.specs.Framing.{gpp}
+use Rattle.meaning.specs.Versions.{current}
+use Rattle.meaning.specs.Framing.{gpp, attributeOctets}
 use Rattle.meaning.specs.Refusals.{Refusal, none, refusal, areaRefusal}
-use Rattle.meaning.specs.Sheet.{form, stored, attributeOctets, mark, judged}
+use Rattle.meaning.specs.Sheet.{form, stored, mark, judged}
 use Rattle.meaning.specs.Breaches.{entry}
 use Rattle.meaning.specs.Answers.{given, refused, readAnswer, checkAnswer, writeAnswer, listOf}
 use Rattle.meaning.specs.Seen.{areaA, sheetA}
@@ -93,11 +94,11 @@ shaped =
     ∷ asItStands (gpp 13) (0 ∷ 0 ∷ 0 ∷ 1 ∷ []) 1
     ∷ []
 
-pub forms-say : map (λ (c : OfValue). form (c .number) (c .value)) shaped ≡ map (λ (c : OfValue). c .form) shaped
+pub forms-say : map (λ (c : OfValue). form current (c .number) (c .value)) shaped ≡ map (λ (c : OfValue). c .form) shaped
 unfolding computing
 forms-say = refl
 
-pub stored-say : map (λ (c : OfValue). stored (c .number) (c .value)) shaped ≡ map (λ (c : OfValue). c .stored) shaped
+pub stored-say : map (λ (c : OfValue). stored current (c .number) (c .value)) shaped ≡ map (λ (c : OfValue). c .stored) shaped
 unfolding computing
 stored-say = refl
 
@@ -107,18 +108,22 @@ pub record OfSheet : Type 0 where
   pub sheet : List ℕ
   pub says : Refusal
 
+-- the mark and version 1
+abbrev front : List ℕ
+front = mark ++ 0 ∷ 1 ∷ []
+
 -- a sheet of kind 1, flags 0 that announces so many items, with these octets after its head
 abbrev announces : ℕ → List ℕ → Refusal → OfSheet
-announces n l r = record { sheet = mark ++ 1 ∷ 0 ∷ 0 ∷ n ∷ l; says = r }
+announces n l r = record { sheet = front ++ 1 ∷ 0 ∷ 0 ∷ n ∷ l; says = r }
 
 abbrev pub sheets : List OfSheet
 sheets =
     record { sheet = []; says = refusal 20 0 }
-    ∷ record { sheet = mark ++ 1 ∷ 0 ∷ 0 ∷ []; says = refusal 20 0 }
+    ∷ record { sheet = front ++ 1 ∷ 0 ∷ 0 ∷ []; says = refusal 20 0 }
     ∷ record { sheet = 0x47 ∷ 0x49 ∷ 0x52 ∷ 0 ∷ 2 ∷ 0 ∷ 0 ∷ 0 ∷ 0 ∷ []; says = refusal 20 0 }
     ∷ record { sheet = 0x47 ∷ 0x49 ∷ 0x52 ∷ 1 ∷ 1 ∷ 1 ∷ 0 ∷ 0 ∷ 0 ∷ []; says = refusal 20 0 }
-    ∷ record { sheet = mark ++ 7 ∷ 0 ∷ 0 ∷ 1 ∷ []; says = refusal 21 0 }
-    ∷ record { sheet = mark ++ 1 ∷ 3 ∷ 0 ∷ 1 ∷ []; says = refusal 21 0 }
+    ∷ record { sheet = front ++ 7 ∷ 0 ∷ 0 ∷ 1 ∷ []; says = refusal 21 0 }
+    ∷ record { sheet = front ++ 1 ∷ 3 ∷ 0 ∷ 1 ∷ []; says = refusal 21 0 }
     ∷ announces 0 [] none
     ∷ announces 0 (4 ∷ []) (refusal 22 9)
     ∷ announces 1 [] (refusal 22 9)
@@ -127,6 +132,7 @@ sheets =
     ∷ announces 2 (0 ∷ 0 ∷ 0 ∷ 0 ∷ []) (refusal 22 13)
     ∷ announces 1 (0 ∷ 0 ∷ 9 ∷ 1 ∷ []) (refusal 22 9)
     ∷ announces 1 (0 ∷ 0 ∷ 9 ∷ 1 ∷ 5 ∷ []) (refusal 23 9)
+    ∷ announces 1 (31 ∷ 0 ∷ 132 ∷ 2 ∷ 0x12 ∷ []) (refusal 22 9)
     ∷ announces 2 (0 ∷ 1 ∷ 0 ∷ 0 ∷ 0 ∷ []) (refusal 23 9)
     ∷ announces 1 (0 ∷ 1 ∷ 0 ∷ 0 ∷ []) (refusal 23 9)
     ∷ announces 1 (0 ∷ 0 ∷ 1 ∷ 0 ∷ []) (refusal 23 9)
@@ -160,8 +166,8 @@ sheets =
     ∷ announces 1 (26 ∷ 12 ∷ 7 ∷ 1 ∷ 10 ∷ []) (refusal 23 9)
     ∷ announces 2 (26 ∷ 12 ∷ 7 ∷ 1 ∷ 10 ∷ 0 ∷ []) (refusal 23 9)
     ∷ announces 1 (0 ∷ 0 ∷ 0 ∷ 0 ∷ 0 ∷ 0 ∷ []) (refusal 22 13)
-    ∷ record { sheet = mark ++ 1 ∷ 0 ∷ 7 ∷ 247 ∷ replicate (4 * 2039) 0; says = refusal 24 4078 }
-    ∷ record { sheet = mark ++ 1 ∷ 0 ∷ 7 ∷ 248 ∷ replicate (4 * 2039) 0 ++ 0 ∷ 0 ∷ 9 ∷ 0 ∷ []; says = refusal 23 8165 }
+    ∷ record { sheet = front ++ 1 ∷ 0 ∷ 7 ∷ 247 ∷ replicate (4 * 2039) 0; says = refusal 24 4078 }
+    ∷ record { sheet = front ++ 1 ∷ 0 ∷ 7 ∷ 248 ∷ replicate (4 * 2039) 0 ++ 0 ∷ 0 ∷ 9 ∷ 0 ∷ []; says = refusal 23 8165 }
     ∷ record { sheet = sheetA; says = none }
     ∷ []
 

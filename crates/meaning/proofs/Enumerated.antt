@@ -5,6 +5,7 @@ use mathlib.Core.Bool.{Bool, not}
 use mathlib.Core.List.{List, [], _∷_, _++_, map}
 use Prim.Native.Nat.{ℕ, zero, suc}
 use lib.Dec.{eqb}
+use Rattle.meaning.specs.Versions.{current}
 use Rattle.meaning.specs.Shapes.{shapeOf, meets}
 use Rattle.meaning.specs.Sheet.{formOf}
 use Rattle.meaning.specs.Presence.{mandatory, conditional}
@@ -26,7 +27,7 @@ unfolding computing
 formed = refl
 
 -- the numbers that have a shape: an empty value misses each of them
-pub have-shape : those (λ n. not (meets (shapeOf n) [])) 512 ≡ (1 ∷ 2 ∷ 3 ∷ 4 ∷ 6 ∷ 7 ∷ 8 ∷ 9 ∷ 18 ∷ 24 ∷ 25 ∷ 30 ∷ 31 ∷ 32 ∷ 40 ∷ 41 ∷ 42 ∷ 43 ∷ 44 ∷ 45 ∷ 46 ∷ 47 ∷ 48 ∷ 49 ∷ 60 ∷ 61 ∷ []) ++ listed3gpp
+pub have-shape : those (λ n. not (meets current (shapeOf n) [])) 512 ≡ (1 ∷ 2 ∷ 3 ∷ 4 ∷ 6 ∷ 7 ∷ 8 ∷ 9 ∷ 18 ∷ 24 ∷ 25 ∷ 30 ∷ 31 ∷ 32 ∷ 40 ∷ 41 ∷ 42 ∷ 43 ∷ 44 ∷ 45 ∷ 46 ∷ 47 ∷ 48 ∷ 49 ∷ 60 ∷ 61 ∷ []) ++ listed3gpp
 unfolding computing
 have-shape = refl
 

@@ -9,9 +9,8 @@ use lib.Dec.{T, eqb, leb, ltb, leb→le}
 use borrow.Author.Tests.{lt-ltb, le-ltb, le-leb, eq-eqb, ne-eqb, ltb-false, leb-true, eqb-true, eqb-false, not-true}
 use lib.ListN.{length, take, drop, getD, length-append, length-drop}
 use lib.Seq.{length-take-le, take-take, take-at, take-append-le}
-use Rattle.meaning.specs.Octets.{Octets, numberOf}
-use Rattle.meaning.specs.Framing.{gpp, isPlain, headLength, Found, attribute, refused, nothing, oneSub, vendorFound, found}
-use Rattle.meaning.specs.Sheet.{attributeOctets, carries}
+use Rattle.meaning.specs.Octets.{Octets, numberOf, octetsOf}
+use Rattle.meaning.specs.Framing.{gpp, isPlain, headLength, vendor3gpp, attributeOctets, carries, Found, attribute, refused, nothing, oneSub, vendorFound, found}
 use Rattle.meaning.proofs.Tests.{parts, is-true}
 use Rattle.meaning.proofs.Octets.{octet-at}
 use Rattle.meaning.proofs.Numbers.{number-one}
@@ -84,7 +83,7 @@ unfolding numberOf
 id-octets l o n e = number-one l (0 ∷ 0 ∷ 40 ∷ 175 ∷ []) o (omega arith, (omega arith, (omega arith, (omega arith, tt)))) n e
 
 gpp-octets : (k : ℕ) (r : List ℕ) → Octets r → k + 6 ≤ length r → numberOf (take 4 r) ≡ 10415 → getD r 5 0 ≡ k + 2 → attributeOctets (gpp (getD r 4 0)) (take k (drop 6 r)) ≡ 26 ∷ (k + 8) ∷ take (k + 6) r
-unfolding attributeOctets
+unfolding attributeOctets octetsOf
 gpp-octets k [] o h b m = absurd (omega arith)
 gpp-octets k (a ∷ []) o h b m = absurd (omega arith)
 gpp-octets k (a ∷ b ∷ []) o h e m = absurd (omega arith)
@@ -175,7 +174,7 @@ module _ (v rest : List ℕ) where
 
 -- The octets of a carried attribute, whatever follows, are found as that attribute.
 pub carried-found : (n : ℕ) (v rest : List ℕ) → T (carries n v) → found (attributeOctets n v ++ rest) ≡ attribute n (headLength n) (length (attributeOctets n v))
-unfolding attributeOctets headLength
+unfolding attributeOctets octetsOf headLength
 carried-found n v rest c = go (isPlain n) refl
   where
     two : length v + 2 ≡ suc (suc (length v))
@@ -202,7 +201,7 @@ carried-found n v rest c = go (isPlain n) refl
 
 -- and its value is the attribute's value
 pub carried-value : (n : ℕ) (v rest : List ℕ) → take (length (attributeOctets n v) - headLength n) (drop (headLength n) (attributeOctets n v ++ rest)) ≡ v
-unfolding attributeOctets headLength
+unfolding attributeOctets octetsOf headLength
 carried-value n v rest = go (isPlain n)
   where
     go : (b : Bool) → take (length (cond b (n ∷ (length v + 2) ∷ v) (26 ∷ (length v + 8) ∷ 0 ∷ 0 ∷ 40 ∷ 175 ∷ (n - 256) ∷ (length v + 2) ∷ v)) - cond b 2 8) (drop (cond b 2 8) (cond b (n ∷ (length v + 2) ∷ v) (26 ∷ (length v + 8) ∷ 0 ∷ 0 ∷ 40 ∷ 175 ∷ (n - 256) ∷ (length v + 2) ∷ v) ++ rest)) ≡ v

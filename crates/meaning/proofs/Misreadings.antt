@@ -4,9 +4,10 @@ use mathlib.Core.Path.{_≡_, refl}
 use mathlib.Core.List.{List, [], _∷_, _++_}
 use Prim.Native.Nat.{ℕ}
 use lib.ListN.{replicate}
-use Rattle.meaning.specs.Framing.{gpp}
+use Rattle.meaning.specs.Versions.{current}
+use Rattle.meaning.specs.Framing.{gpp, attributeOctets}
 use Rattle.meaning.specs.Refusals.{none, refusal, areaRefusal}
-use Rattle.meaning.specs.Sheet.{item, attributeOctets}
+use Rattle.meaning.specs.Sheet.{item}
 use Rattle.meaning.specs.Breaches.{entry}
 use Rattle.meaning.specs.Answers.{listOf}
 use Rattle.meaning.proofs.Computing.{computing}
@@ -30,11 +31,11 @@ unfolding computing
 bad-is-present = refl
 
 -- A 5-digit MCC-MNC is packed as five, its last low half 15; six digits are another item.
-pub five-digits : item (gpp 8) (0x30 ∷ 0x30 ∷ 0x31 ∷ 0x30 ∷ 0x31 ∷ []) ≡ 0x1A ∷ 0x08 ∷ 0x04 ∷ 0x05 ∷ 0x00 ∷ 0x10 ∷ 0x1F ∷ []
+pub five-digits : item current (gpp 8) (0x30 ∷ 0x30 ∷ 0x31 ∷ 0x30 ∷ 0x31 ∷ []) ≡ 0x1A ∷ 0x08 ∷ 0x04 ∷ 0x05 ∷ 0x00 ∷ 0x10 ∷ 0x1F ∷ []
 unfolding computing
 five-digits = refl
 
-pub six-digits : item (gpp 8) (0x30 ∷ 0x30 ∷ 0x31 ∷ 0x30 ∷ 0x31 ∷ 0x30 ∷ []) ≡ 0x1A ∷ 0x08 ∷ 0x04 ∷ 0x06 ∷ 0x00 ∷ 0x10 ∷ 0x10 ∷ []
+pub six-digits : item current (gpp 8) (0x30 ∷ 0x30 ∷ 0x31 ∷ 0x30 ∷ 0x31 ∷ 0x30 ∷ []) ≡ 0x1A ∷ 0x08 ∷ 0x04 ∷ 0x06 ∷ 0x00 ∷ 0x10 ∷ 0x10 ∷ []
 unfolding computing
 six-digits = refl
 

@@ -38,10 +38,6 @@ unpack-pack (a ∷ b ∷ l) h =
     let f : (a * 16 + b) % 16 ≡ b = omega arith in
     rw (e, f, unpack-pack l (h .1 .1))
 
--- Digits of one count that are packed alike are alike.
-pub pack-one : (k l : List ℕ) → Halves k → Halves l → length k ≡ length l → pack k ≡ pack l → k ≡ l
-pack-one k l hk hl n p = sym (unpack-pack k hk) ∙ rw (n, p) (unpack-pack l hl)
-
 pub unpack-length : (n : ℕ) (s : List ℕ) → length s ≡ packedLength n → length (unpack n s) ≡ n
 unfolding unpack
 unpack-length zero s h = refl

@@ -1,6 +1,6 @@
 -- Demand 2, of the meaning: a sheet made by reading is judged to be its area, kind and flags; a sheet that the judgement accepts is
 -- the sheet of what it gives; so a sheet is accepted exactly when some readable area has it, and it has one. Assumes nothing.
-use mathlib.Core.Path.{_≡_, refl, sym, ap, _∙_}
+use mathlib.Core.Path.{_≡_, refl, sym, ap, ap₂, _∙_}
 use mathlib.Core.Logic.{_↔_}
 use mathlib.Core.Bool.{Bool, true, false, cond, not, _&&_}
 use mathlib.Core.List.{List, [], _∷_, _++_}
@@ -12,13 +12,15 @@ use lib.ListN.{length, take, drop, length-append, length-drop, take-append-drop}
 use lib.Seq.{drop-cons, drop-drop, length-take-le}
 use Rattle.meaning.specs.Octets.{Octets, same, numberOf, octetsOf}
 use Rattle.meaning.specs.Jobs.{isKind, areFlags}
-use Rattle.meaning.specs.Framing.{isPlain, Attribute, Walk, walkAt, walk, attributes}
+use Rattle.meaning.specs.Versions.{Version, one, termsOf}
+use Rattle.meaning.specs.Framing.{isPlain, Attribute, attributeOctets, areaOf, Carried, All, Walk, walkAt, walk, attributes}
 use Rattle.meaning.specs.Refusals.{Refusal, none, refusal, when, first, fault, tooLong, kindRefusal, framingRefusal, areaRefusal, sheetRefusal}
-use Rattle.meaning.specs.Sheet.{mark, itemsOf, sheetWith, sheetOf, Readable, Writable, attributeOctets, areaOf, items, itemsIn, kindIn, flagsIn, areaIn, marked, judged}
+use Rattle.meaning.specs.Sheet.{mark, itemsOf, sheetHead, sheetWith, sheetAs, Readable, Writable, items, itemsIn, versionIn, kindIn, flagsIn, areaIn, marked, judged}
 use Rattle.meaning.proofs.Tests.{parts, is-true, passes, same-one}
 use Rattle.meaning.proofs.Numbers.{number-back, octets-back}
 use Rattle.meaning.proofs.Framing.{plain-lines, gpp-lines}
-use Rattle.meaning.proofs.RoundTrip.{Carried, All, walked, reread, kept, judged-items, no-refusal}
+use Rattle.meaning.proofs.Walked.{no-refusal, walked-area, area-back, no-fault}
+use Rattle.meaning.proofs.RoundTrip.{reread, kept, judged-items}
 use Rattle.meaning.proofs.Octets.{octets-take, octets-drop, octets-append}
 
 -- ---- What it takes to be read
@@ -64,7 +66,7 @@ clear-read kind flags area c = rw (c .kind-ok, c .flags-ok, le-ltb 4076 (length 
 
 -- an attribute is its value and two octets more, or eight
 pub attribute-length : (n : ℕ) (v : List ℕ) → length v + 2 ≤ length (attributeOctets n v)
-unfolding attributeOctets
+unfolding attributeOctets octetsOf
 attribute-length n v = go (isPlain n)
   where
     go : (b : Bool) → length v + 2 ≤ length (cond b (n ∷ (length v + 2) ∷ v) (26 ∷ (length v + 8) ∷ 0 ∷ 0 ∷ 40 ∷ 175 ∷ (n - 256) ∷ (length v + 2) ∷ v))
@@ -78,20 +80,24 @@ area-long [] = omega arith
 area-long (a ∷ l) = omega (arith, area-long l, attribute-length (a .number) (a .value), length-append (attributeOctets (a .number) (a .value)) (areaOf l))
 
 -- What a sheet with these attributes says of itself.
-pub record Says (kind flags : ℕ) (l : List Attribute) (sheet : List ℕ) : Type 0 where
+pub record Says (ver : Version) (kind flags : ℕ) (l : List Attribute) (sheet : List ℕ) : Type 0 where
+  pub version-is : versionIn sheet ≡ ver
   pub marked-is : marked sheet ≡ true
   pub kind-is : kindIn sheet ≡ kind
   pub flags-is : flagsIn sheet ≡ flags
-  pub items-are : itemsIn sheet ≡ items (length l) 9 (itemsOf l)
+  pub items-are : itemsIn sheet ≡ items ver (length l) 9 (itemsOf ver l)
 
-pub sheet-says : (kind flags : ℕ) (l : List Attribute) → length l < 65536 → Says kind flags l (sheetWith kind flags l)
-unfolding sheetWith marked itemsIn octetsOf
-sheet-says kind flags l h =
+pub sheet-says :
+    (ver : Version) (kind flags : ℕ) (l : List Attribute) → length l < 65536
+    → Says ver kind flags l (sheetWith ver kind flags l)
+unfolding sheetWith sheetHead marked itemsIn octetsOf
+sheet-says one kind flags l h =
     record {
-      marked-is = rw (le-leb 9 (length (sheetWith kind flags l)) (omega arith));
+      version-is = refl;
+      marked-is = rw (le-leb 9 (length (sheetWith one kind flags l)) (omega arith));
       kind-is = refl;
       flags-is = refl;
-      items-are = ap (λ (n : ℕ). items n 9 (itemsOf l)) (number-back 2 (length l) h);
+      items-are = ap (λ (n : ℕ). items one n 9 (itemsOf one l)) (number-back 2 (length l) h);
     }
 
 -- What a judged sheet gives back.
@@ -101,19 +107,21 @@ pub record Returned (kind flags : ℕ) (area sheet : List ℕ) : Type 0 where
   pub flags-is : flagsIn sheet ≡ flags
   pub area-is : areaIn sheet ≡ area
 
--- Judging the sheet of a readable area gives that area, kind and flags.
-pub sheet-goes-back : (kind flags : ℕ) (area : List ℕ) → Readable kind flags area → Returned kind flags area (sheetOf kind flags area)
-unfolding sheetOf judged sheetRefusal areaIn walk walkAt
-sheet-goes-back kind flags area r =
+-- Judging the sheet of a readable area gives that area, kind and flags, in every version.
+pub sheet-goes-back :
+    (ver : Version) (kind flags : ℕ) (area : List ℕ) → Readable kind flags area
+    → Returned kind flags area (sheetAs ver kind flags area)
+unfolding sheetAs judged sheetRefusal areaIn
+sheet-goes-back ver kind flags area r =
     let c = clear kind flags area (r .accepted) in
-    let w = walked 0 0 area (r .octets) (omega arith) in
     let l : List Attribute = attributes (walk area) in
-    let e : areaOf l ≡ area = w .area-is (c .sound) in
-    let s = sheet-says kind flags l (omega (arith, area-long l, ap length e, c .short)) in
-    let k = kept 9 l (w .carried) in
-    let a : areaIn (sheetWith kind flags l) ≡ area = ap (λ (x : Walk). areaOf (attributes x)) (s .items-are) ∙ k .same-area ∙ e in
+    let e : areaOf l ≡ area = area-back area (r .octets) (c .sound) in
+    let s = sheet-says ver kind flags l (omega (arith, area-long l, ap length e, c .short)) in
+    let k = kept ver 9 l (walked-area area (r .octets) .carried) in
+    let a : areaIn (sheetWith ver kind flags l) ≡ area = ap (λ (x : Walk). areaOf (attributes x)) (s .items-are) ∙ k .same-area ∙ e in
+    let fits = le-ltb 4076 (length area) (c .short) in
     record {
-      accepted = rw (s .marked-is, s .items-are, s .kind-is, s .flags-is, k .sound, k .same-area, e, c .kind-ok, c .flags-ok, le-ltb 4076 (length area) (c .short));
+      accepted = rw (s .marked-is, s .items-are, s .kind-is, s .flags-is, k .sound, k .same-area, e, c .kind-ok, c .flags-ok, fits);
       kind-is = s .kind-is;
       flags-is = s .flags-is;
       area-is = a;
@@ -122,7 +130,7 @@ sheet-goes-back kind flags area r =
 -- ---- And back
 
 attribute-octets : (a : Attribute) → Carried a → Octets (attributeOctets (a .number) (a .value))
-unfolding attributeOctets
+unfolding attributeOctets octetsOf
 attribute-octets a c = go (isPlain (a .number)) refl
   where
     v : List ℕ
@@ -146,20 +154,26 @@ unfolding areaOf
 area-octets [] c = tt
 area-octets (a ∷ l) c = octets-append (attributeOctets (a .number) (a .value)) (areaOf l) (attribute-octets a (c .0)) (area-octets l (c .1))
 
--- a sheet of nine octets or more is its mark, kind, flags, number of items and the rest
-split : (sheet : List ℕ) → Octets sheet → marked sheet ≡ true → sheet ≡ mark ++ kindIn sheet ∷ flagsIn sheet ∷ octetsOf 2 (numberOf (take 2 (drop 7 sheet))) ++ drop 9 sheet
-unfolding marked
+-- a sheet of nine octets or more is its head and the rest
+split :
+    (sheet : List ℕ) → Octets sheet → marked sheet ≡ true
+    → sheet ≡ sheetHead (versionIn sheet) (kindIn sheet) (flagsIn sheet) (numberOf (take 2 (drop 7 sheet))) ++ drop 9 sheet
+unfolding marked sheetHead octetsOf
 split sheet o m =
-    let t : T (leb 9 (length sheet) && same (take 5 sheet) mark) = passes _ m in
-    let long : 9 ≤ length sheet = leb→le 9 (length sheet) (parts (leb 9 (length sheet)) (same (take 5 sheet) mark) t .0) in
-    let front : take 5 sheet ≡ mark = same-one (take 5 sheet) mark (parts (leb 9 (length sheet)) (same (take 5 sheet) mark) t .1) in
+    let front : List ℕ = mark ++ octetsOf 2 (termsOf (versionIn sheet) .number) in
+    let many : List ℕ = take 2 (drop 7 sheet) in
+    let t = parts (leb 9 (length sheet)) (same (take 5 sheet) front) (passes _ m) in
+    let long : 9 ≤ length sheet = leb→le 9 (length sheet) (t .0) in
     let five : 5 < length sheet = omega arith in
     let six : 6 < length sheet = omega arith in
-    let two : length (take 2 (drop 7 sheet)) ≡ 2 = length-take-le 2 (drop 7 sheet) (omega (arith, length-drop 7 sheet)) in
-    let count : octetsOf 2 (numberOf (take 2 (drop 7 sheet))) ≡ take 2 (drop 7 sheet) = ap (λ (w : ℕ). octetsOf w (numberOf (take 2 (drop 7 sheet)))) (sym two) ∙ octets-back (take 2 (drop 7 sheet)) (octets-take 2 (drop 7 sheet) (octets-drop 7 sheet o)) in
-    let rest : drop 7 sheet ≡ take 2 (drop 7 sheet) ++ drop 9 sheet = sym (take-append-drop 2 (drop 7 sheet)) ∙ ap (λ (x : List ℕ). take 2 (drop 7 sheet) ++ x) (drop-drop 2 7 sheet) in
-    sym (take-append-drop 5 sheet) ∙ ap (λ (x : List ℕ). x ++ drop 5 sheet) front
-    ∙ ap (λ (x : List ℕ). mark ++ x) (drop-cons sheet 5 0 five ∙ ap (λ (x : List ℕ). kindIn sheet ∷ x) (drop-cons sheet 6 0 six ∙ ap (λ (x : List ℕ). flagsIn sheet ∷ x) (rest ∙ ap (λ (x : List ℕ). x ++ drop 9 sheet) (sym count))))
+    let two : length many ≡ 2 = length-take-le 2 (drop 7 sheet) (omega (arith, length-drop 7 sheet)) in
+    let count : octetsOf 2 (numberOf many) ≡ many =
+    ap (λ (w : ℕ). octetsOf w (numberOf many)) (sym two) ∙ octets-back many (octets-take 2 (drop 7 sheet) (octets-drop 7 sheet o)) in
+    let rest : drop 7 sheet ≡ octetsOf 2 (numberOf many) ++ drop 9 sheet =
+    sym (take-append-drop 2 (drop 7 sheet)) ∙ ap (λ (x : List ℕ). many ++ x) (drop-drop 2 7 sheet) ∙ ap (λ (x : List ℕ). x ++ drop 9 sheet) (sym count) in
+    let behind : drop 5 sheet ≡ kindIn sheet ∷ flagsIn sheet ∷ (octetsOf 2 (numberOf many) ++ drop 9 sheet) =
+    drop-cons sheet 5 0 five ∙ ap (λ (x : List ℕ). kindIn sheet ∷ x) (drop-cons sheet 6 0 six ∙ ap (λ (x : List ℕ). flagsIn sheet ∷ x) rest) in
+    sym (take-append-drop 5 sheet) ∙ ap₂ _++_ (same-one (take 5 sheet) front (t .1)) behind
 
 -- A sheet of which nothing of 20 to 24 applies.
 pub record Passed (sheet : List ℕ) : Type 0 where
@@ -187,39 +201,43 @@ passed sheet e =
       short = ltb-false 4076 len (when-is-none (ltb 4076 len) 24 len (c .1));
     }
 
--- A sheet that the judgement accepts is the sheet of the area it gives, and that area is readable.
+-- A sheet that the judgement accepts is the sheet of the area it gives, in its version, and that area is readable.
 pub record Accepted (sheet : List ℕ) : Type 0 where
   pub readable : Readable (kindIn sheet) (flagsIn sheet) (areaIn sheet)
-  pub is : sheet ≡ sheetOf (kindIn sheet) (flagsIn sheet) (areaIn sheet)
+  pub is : sheet ≡ sheetAs (versionIn sheet) (kindIn sheet) (flagsIn sheet) (areaIn sheet)
 
 pub accepted-sheet : (sheet : List ℕ) → Octets sheet → judged sheet ≡ none → Accepted sheet
-unfolding sheetOf sheetWith areaIn itemsIn walk walkAt
+unfolding sheetAs sheetWith areaIn itemsIn walk walkAt
 accepted-sheet sheet o e =
     let p = passed sheet e in
-    let j = judged-items (numberOf (take 2 (drop 7 sheet))) 9 (drop 9 sheet) (octets-drop 9 sheet o) (p .sound) in
+    let ver : Version = versionIn sheet in
+    let j = judged-items ver (numberOf (take 2 (drop 7 sheet))) 9 (drop 9 sheet) (octets-drop 9 sheet o) (p .sound) in
     let l : List Attribute = attributes (itemsIn sheet) in
-    let r = reread 0 l (j .carried) in
-    let clear : Clear (kindIn sheet) (flagsIn sheet) (areaIn sheet) = record { kind-ok = p .kind-ok; flags-ok = p .flags-ok; short = p .short; sound = r .sound } in
+    let r = reread ver 0 l (j .carried) in
+    let clear : Clear (kindIn sheet) (flagsIn sheet) (areaIn sheet) =
+    record { kind-ok = p .kind-ok; flags-ok = p .flags-ok; short = p .short; sound = no-fault 0 l (j .carried) } in
     record {
       readable = record { octets = area-octets l (j .carried); accepted = clear-read (kindIn sheet) (flagsIn sheet) (areaIn sheet) clear };
       is = split sheet o (p .marked-is) ∙ rw (r .as-many, j .as-many, r .same-items, j .same-octets);
     }
 
--- A sheet is accepted exactly when some readable area has it.
-pub written-exactly : (sheet : List ℕ) → Octets sheet → judged sheet ≡ none ↔ Writable sheet
+-- A sheet is accepted exactly when some readable area has it, in the sheet's version.
+pub written-exactly : (sheet : List ℕ) → Octets sheet → judged sheet ≡ none ↔ Writable (versionIn sheet) sheet
 written-exactly sheet o = (there, back)
   where
-    there : judged sheet ≡ none → Writable sheet
+    there : judged sheet ≡ none → Writable (versionIn sheet) sheet
     there e =
         let a = accepted-sheet sheet o e in
         record { kind = kindIn sheet; flags = flagsIn sheet; area = areaIn sheet; readable = a .readable; has = a .is }
 
-    back : Writable sheet → judged sheet ≡ none
-    back w = ap judged (w .has) ∙ sheet-goes-back (w .kind) (w .flags) (w .area) (w .readable) .accepted
+    back : Writable (versionIn sheet) sheet → judged sheet ≡ none
+    back w = ap judged (w .has) ∙ sheet-goes-back (versionIn sheet) (w .kind) (w .flags) (w .area) (w .readable) .accepted
 
 -- Two readable areas with one sheet are the same, and so are their kinds and flags.
-pub one-area : (k f : ℕ) (a : List ℕ) (k′ f′ : ℕ) (a′ : List ℕ) → Readable k f a → Readable k′ f′ a′ → sheetOf k f a ≡ sheetOf k′ f′ a′ → (k ≡ k′) × (f ≡ f′) × (a ≡ a′)
-one-area k f a k′ f′ a′ r r′ e =
-    let s = sheet-goes-back k f a r in
-    let s′ = sheet-goes-back k′ f′ a′ r′ in
+pub one-area :
+    (ver : Version) (k f : ℕ) (a : List ℕ) (k′ f′ : ℕ) (a′ : List ℕ) → Readable k f a → Readable k′ f′ a′
+    → sheetAs ver k f a ≡ sheetAs ver k′ f′ a′ → (k ≡ k′) × (f ≡ f′) × (a ≡ a′)
+one-area ver k f a k′ f′ a′ r r′ e =
+    let s = sheet-goes-back ver k f a r in
+    let s′ = sheet-goes-back ver k′ f′ a′ r′ in
     (sym (s .kind-is) ∙ ap kindIn e ∙ s′ .kind-is, sym (s .flags-is) ∙ ap flagsIn e ∙ s′ .flags-is, sym (s .area-is) ∙ ap areaIn e ∙ s′ .area-is)

@@ -7,6 +7,7 @@ use mathlib.Core.Bool.{Bool, true, false, not, _&&_, _||_}
 use mathlib.Core.List.{List, [], _∷_, _++_, map}
 use lib.Dec.{T, eqb}
 use Rattle.meaning.specs.Octets.{isIn, between}
+use Rattle.meaning.specs.Versions.{current}
 use Rattle.meaning.specs.Framing.{gpp, Attribute}
 use Rattle.meaning.specs.Shapes.{shapeOf, meets, allowed}
 use Rattle.meaning.specs.Sheet.{typeOf, subOf}
@@ -20,11 +21,11 @@ entry place rule n = place * 1048576 + (rule * 65536 + (typeOf n * 256 + subOf n
 
 -- rule 1: "it has a shape and misses it"
 unfoldable pub misses : Attribute → Bool
-misses a = not (meets (shapeOf (a .number)) (a .value))
+misses a = not (meets current (shapeOf (a .number)) (a .value))
 
 -- rule 2: "shape met, value not allowed"
 unfoldable pub offends : (kind : ℕ) → Attribute → Bool
-offends kind a = meets (shapeOf (a .number)) (a .value) && not (allowed kind (a .number) (a .value))
+offends kind a = meets current (shapeOf (a .number)) (a .value) && not (allowed kind (a .number) (a .value))
 
 -- "3GPP 1 to 12, 18"
 abbrev pub isListed3gpp : (number : ℕ) → Bool

@@ -1,10 +1,12 @@
--- Document 01, "Framing": what stands at a place of an area, and the walk over the area from the left. Assumes nothing.
-use Prim.Native.Nat.{ℕ, zero, suc, _+_, _-_}
-use mathlib.Core.Bool.{Bool, cond, _&&_}
-use mathlib.Core.List.{List, [], _∷_}
-use lib.Dec.{eqb, leb, ltb}
+-- Document 01, "Framing": the octets of an attribute and the areas that are made of such; then what stands at a place of an area, and the
+-- walk over the area from the left, which finds the first fault. Assumes nothing.
+use mathlib.Core.Path.{_≡_}
+use Prim.Native.Nat.{ℕ, zero, suc, _+_, _-_, _<_}
+use mathlib.Core.Bool.{Bool, cond, not, _&&_, _||_}
+use mathlib.Core.List.{List, [], _∷_, _++_}
+use lib.Dec.{T, eqb, leb, ltb}
 use lib.ListN.{length, take, drop, getD}
-use Rattle.meaning.specs.Octets.{numberOf}
+use Rattle.meaning.specs.Octets.{Octets, numberOf, octetsOf}
 
 -- The number that an attribute carries: a plain attribute's is its type, 0 to 255; a 3GPP sub-attribute's stands behind these.
 abbrev pub gpp : ℕ → ℕ
@@ -24,16 +26,53 @@ pub record Attribute : Type 0 where
   pub number : ℕ
   pub value : List ℕ
 
+-- "vendor 10415"
+abbrev pub vendor3gpp : ℕ
+vendor3gpp = 10415
+
+-- "type, length, value"; for 3GPP the id, then "number, length m, value": the octets of an attribute
+unfoldable pub attributeOctets : (number : ℕ) → List ℕ → List ℕ
+attributeOctets n v =
+    cond (isPlain n) (n ∷ (length v + 2) ∷ v)
+    (26 ∷ (length v + 8) ∷ octetsOf 4 vendor3gpp ++ (n - 256) ∷ (length v + 2) ∷ v)
+
+-- the area of some attributes
+unfoldable pub areaOf : List Attribute → List ℕ
+areaOf [] = []
+areaOf (a ∷ l) = attributeOctets (a .number) (a .value) ++ areaOf l
+
+-- a readable attribute carries the number with this value: its lengths fit, and a plain 26 is another vendor's
+unfoldable pub carries : (number : ℕ) → List ℕ → Bool
+carries n v =
+    cond (isPlain n)
+    (leb (length v) 253 && (not (eqb n 26) || (leb 5 (length v) && not (eqb (numberOf (take 4 v)) vendor3gpp))))
+    (leb (length v) 246)
+
+-- an attribute that an area may carry
+pub record Carried (a : Attribute) : Type 0 where
+  pub low : a .number < 512
+  pub carried : T (carries (a .number) (a .value))
+  pub octets : Octets (a .value)
+
+-- each of the attributes is such
+abbrev pub All : (Attribute → Type 0) → List Attribute → Type 0
+All P [] = Unit {0}
+All P (a ∷ l) = P a × All P l
+
+-- an area is well framed: it is the octets, end to end, of some attributes that an area may carry
+pub record WellFramed (area : List ℕ) : Type 0 where
+  pub made : List Attribute
+  pub each : All Carried made
+  pub whole : areaOf made ≡ area
+
+-- ---- The walk
+
 -- What stands at the front of some octets: an attribute with the number it carries, the octets before its value and all its octets;
 -- a refusal, by its number in the book; or nothing at all.
 pub data Found : Type 0 where
   attribute : (number head size : ℕ) → Found
   refused : (number : ℕ) → Found
   nothing : Found
-
--- "vendor 10415"
-abbrev pub vendor3gpp : ℕ
-vendor3gpp = 10415
 
 -- "with 2 <= m <= 248 and m = n - 6"
 unfoldable pub oneSub : (n m : ℕ) → Bool

@@ -1,4 +1,5 @@
 pub mod Octets
+pub mod Versions
 pub mod Jobs
 pub mod Framing
 pub mod Refusals

@@ -4,7 +4,8 @@ use mathlib.Core.Bool.{Bool, true, cond, _&&_, _||_}
 use mathlib.Core.List.{List, [], _∷_}
 use lib.Dec.{eqb, leb}
 use lib.ListN.{length, take, drop, getD}
-use Rattle.meaning.specs.Octets.{isIn, between, all, same, isDigit, isHex, numberOf, values}
+use Rattle.meaning.specs.Octets.{isIn, between, all, same, isDigit, numberOf, values}
+use Rattle.meaning.specs.Versions.{Version, isHexIn}
 use Rattle.meaning.specs.Framing.{gpp, isPlain}
 
 -- "Form 2, four octets", "Form 3", so many digits, "16 hexadecimal digits", a QoS text, "one hexadecimal digit", "any one octet", "one decimal
@@ -52,23 +53,23 @@ unfoldable pub shapeOf : ℕ → Shape
 shapeOf n = cond (isPlain n) (plainShape n) (gppShape (n - 256))
 
 -- "text "98-" and 6 hexadecimal digits (m = 11)": a release's two digits and a dash, then so many hexadecimal digits
-abbrev pub release : (one two count : ℕ) → List ℕ → Bool
-release a b n v = same (take 3 v) (a ∷ b ∷ 45 ∷ []) && (eqb (length v) (3 + n) && all isHex (drop 3 v))
+abbrev pub release : Version → (one two count : ℕ) → List ℕ → Bool
+release ver a b n v = same (take 3 v) (a ∷ b ∷ 45 ∷ []) && (eqb (length v) (3 + n) && all (isHexIn ver) (drop 3 v))
 
--- "shape met": the value meets the shape
-unfoldable pub meets : Shape → List ℕ → Bool
-meets number v = eqb (length v) 4
-meets address v = eqb (length v) 4
-meets (digits a b) v = between a b (length v) && all isDigit v
-meets hexadecimal v = eqb (length v) 16 && all isHex v
-meets qos v = release 57 56 6 v || release 57 57 22 v
-meets hexDigit v = eqb (length v) 1 && all isHex v
-meets anyOctet v = eqb (length v) 1
-meets decimalDigit v = eqb (length v) 1 && all isDigit v
-meets (atLeast n) v = leb n (length v)
-meets (exactly n) v = eqb (length v) n
-meets blocks v = between 16 128 (length v) && eqb (length v % 16) 0
-meets free v = true
+-- "shape met": the value meets the shape, in a version
+unfoldable pub meets : Version → Shape → List ℕ → Bool
+meets ver number v = eqb (length v) 4
+meets ver address v = eqb (length v) 4
+meets ver (digits a b) v = between a b (length v) && all isDigit v
+meets ver hexadecimal v = eqb (length v) 16 && all (isHexIn ver) v
+meets ver qos v = release ver 57 56 6 v || release ver 57 57 22 v
+meets ver hexDigit v = eqb (length v) 1 && all (isHexIn ver) v
+meets ver anyOctet v = eqb (length v) 1
+meets ver decimalDigit v = eqb (length v) 1 && all isDigit v
+meets ver (atLeast n) v = leb n (length v)
+meets ver (exactly n) v = eqb (length v) n
+meets ver blocks v = between 16 128 (length v) && eqb (length v % 16) 0
+meets ver free v = true
 
 -- "40 is 1, 2, 7, 8, 3 for kinds 2, 3, 4, 5, 6": the status that a kind other than 1 asks for
 abbrev pub statusOf : (kind : ℕ) → ℕ

@@ -2,12 +2,13 @@
 -- decides it with the refusals 20 to 24. Assumes nothing.
 use mathlib.Core.Path.{_≡_}
 use Prim.Native.Nat.{ℕ, zero, suc, _+_, _*_, _-_, _/_, _%_}
-use mathlib.Core.Bool.{Bool, cond, not, _&&_, _||_}
+use mathlib.Core.Bool.{Bool, cond, not, _&&_}
 use mathlib.Core.List.{List, [], _∷_, _++_}
 use lib.Dec.{eqb, leb, ltb}
 use lib.ListN.{length, take, drop, getD}
 use Rattle.meaning.specs.Octets.{Octets, same, numberOf, octetsOf, pack, unpack, packedLength, digitValue, values, text}
-use Rattle.meaning.specs.Framing.{gpp, isPlain, vendor3gpp, Attribute, Walk, end, broken, next, walk, attributes}
+use Rattle.meaning.specs.Versions.{Version, one, termsOf, current, formNamed}
+use Rattle.meaning.specs.Framing.{gpp, isPlain, Attribute, areaOf, carries, Walk, end, broken, next, walk, attributes}
 use Rattle.meaning.specs.Refusals.{Refusal, none, areaRefusal, sheetRefusal}
 use Rattle.meaning.specs.Shapes.{Shape, number, address, digits, hexadecimal, qos, hexDigit, anyOctet, decimalDigit, atLeast, exactly, blocks, free, shapeOf, meets}
 
@@ -34,72 +35,80 @@ formOf (exactly n) = 0
 formOf blocks = 0
 formOf free = 0
 
--- The table of forms: the octets that a value which meets the shape is stored in
-unfoldable pub storedOf : Shape → List ℕ → List ℕ
-storedOf number v = v
-storedOf address v = v
-storedOf (digits a b) v = pack (values v)
-storedOf hexadecimal v = pack (values v)
-storedOf qos v = (digitValue (getD v 0 0) * 10 + digitValue (getD v 1 0)) ∷ pack (values (drop 3 v))
-storedOf hexDigit v = values v
-storedOf anyOctet v = v
-storedOf decimalDigit v = values v
-storedOf (atLeast n) v = v
-storedOf (exactly n) v = v
-storedOf blocks v = v
-storedOf free v = v
+-- The table of forms: the octets that a value which meets the shape is stored in, in a version
+unfoldable pub storedOf : Version → Shape → List ℕ → List ℕ
+storedOf ver number v = v
+storedOf ver address v = v
+storedOf ver (digits a b) v = pack (values v)
+storedOf ver hexadecimal v = pack (values v)
+storedOf ver qos v = (digitValue (getD v 0 0) * 10 + digitValue (getD v 1 0)) ∷ pack (values (drop 3 v))
+storedOf ver hexDigit v = values v
+storedOf ver anyOctet v = v
+storedOf ver decimalDigit v = values v
+storedOf ver (atLeast n) v = v
+storedOf ver (exactly n) v = v
+storedOf ver blocks v = v
+storedOf ver free v = v
 
 -- The way back: the value that a shape's stored octets, announced by a count, stand for
-unfoldable pub valueOf : Shape → (count : ℕ) → List ℕ → List ℕ
-valueOf number c s = s
-valueOf address c s = s
-valueOf (digits a b) c s = text (unpack c s)
-valueOf hexadecimal c s = text (unpack (2 * length s) s)
-valueOf qos c s = text ((getD s 0 0 / 10) ∷ (getD s 0 0 % 10) ∷ []) ++ 45 ∷ text (unpack (2 * (length s - 1)) (drop 1 s))
-valueOf hexDigit c s = text s
-valueOf anyOctet c s = s
-valueOf decimalDigit c s = text s
-valueOf (atLeast n) c s = s
-valueOf (exactly n) c s = s
-valueOf blocks c s = s
-valueOf free c s = s
+unfoldable pub valueOf : Version → Shape → (count : ℕ) → List ℕ → List ℕ
+valueOf ver number c s = s
+valueOf ver address c s = s
+valueOf ver (digits a b) c s = text (unpack c s)
+valueOf ver hexadecimal c s = text (unpack (2 * length s) s)
+valueOf ver qos c s = text ((getD s 0 0 / 10) ∷ (getD s 0 0 % 10) ∷ []) ++ 45 ∷ text (unpack (2 * (length s - 1)) (drop 1 s))
+valueOf ver hexDigit c s = text s
+valueOf ver anyOctet c s = s
+valueOf ver decimalDigit c s = text s
+valueOf ver (atLeast n) c s = s
+valueOf ver (exactly n) c s = s
+valueOf ver blocks c s = s
+valueOf ver free c s = s
 
 -- "Forms 2 to 7 are used exactly when the value meets its shape below"
-unfoldable pub decodes : (number : ℕ) → List ℕ → Bool
-decodes n v = leb 2 (formOf (shapeOf n)) && meets (shapeOf n) v
+unfoldable pub decodes : Version → (number : ℕ) → List ℕ → Bool
+decodes ver n v = leb 2 (formOf (shapeOf n)) && meets ver (shapeOf n) v
 
 -- "otherwise form 0 (plain) or 1 (3GPP)"
-unfoldable pub form : (number : ℕ) → List ℕ → ℕ
-form n v = cond (decodes n v) (formOf (shapeOf n)) (cond (isPlain n) 0 1)
+unfoldable pub form : Version → (number : ℕ) → List ℕ → ℕ
+form ver n v = cond (decodes ver n v) (formOf (shapeOf n)) (cond (isPlain n) 0 1)
 
 -- "stored octets": those of the form, or the value as it stands
-unfoldable pub stored : (number : ℕ) → List ℕ → List ℕ
-stored n v = cond (decodes n v) (storedOf (shapeOf n) v) v
+unfoldable pub stored : Version → (number : ℕ) → List ℕ → List ℕ
+stored ver n v = cond (decodes ver n v) (storedOf ver (shapeOf n) v) v
 
 -- "Stored octets are count, except form 4", where "count is the digits"
-unfoldable pub count : (number : ℕ) → List ℕ → ℕ
-count n v = cond (eqb (form n v) 4) (length v) (length (stored n v))
+unfoldable pub count : Version → (number : ℕ) → List ℕ → ℕ
+count ver n v = cond (eqb (form ver n v) 4) (length v) (length (stored ver n v))
 
 -- "type, sub-attribute number, form, count, stored octets"
-unfoldable pub item : (number : ℕ) → List ℕ → List ℕ
-item n v = typeOf n ∷ subOf n ∷ form n v ∷ count n v ∷ stored n v
+unfoldable pub item : Version → (number : ℕ) → List ℕ → List ℕ
+item ver n v = typeOf n ∷ subOf n ∷ form ver n v ∷ count ver n v ∷ stored ver n v
 
 -- "one item per attribute, in area order"
-unfoldable pub itemsOf : List Attribute → List ℕ
-itemsOf [] = []
-itemsOf (a ∷ l) = item (a .number) (a .value) ++ itemsOf l
+unfoldable pub itemsOf : Version → List Attribute → List ℕ
+itemsOf ver [] = []
+itemsOf ver (a ∷ l) = item ver (a .number) (a .value) ++ itemsOf ver l
 
--- "mark GIR (47 49 52), version 1 as 16 bits"
+-- "mark GIR (47 49 52)"
 abbrev pub mark : List ℕ
-mark = 0x47 ∷ 0x49 ∷ 0x52 ∷ 0 ∷ 1 ∷ []
+mark = 0x47 ∷ 0x49 ∷ 0x52 ∷ []
 
--- "Nine octets: mark GIR (47 49 52), version 1 as 16 bits, kind, flags, number of items as 16 bits", then the items
-unfoldable pub sheetWith : (kind flags : ℕ) → List Attribute → List ℕ
-sheetWith kind flags l = mark ++ kind ∷ flags ∷ octetsOf 2 (length l) ++ itemsOf l
+-- "Nine octets: mark GIR, version 1 as 16 bits, kind, flags, number of items as 16 bits"
+unfoldable pub sheetHead : Version → (kind flags count : ℕ) → List ℕ
+sheetHead ver kind flags n = mark ++ octetsOf 2 (termsOf ver .number) ++ kind ∷ flags ∷ octetsOf 2 n
+
+-- the head, then the items
+unfoldable pub sheetWith : Version → (kind flags : ℕ) → List Attribute → List ℕ
+sheetWith ver kind flags l = sheetHead ver kind flags (length l) ++ itemsOf ver l
+
+-- the sheet of an area, in a version
+unfoldable pub sheetAs : Version → (kind flags : ℕ) → List ℕ → List ℕ
+sheetAs ver kind flags area = sheetWith ver kind flags (attributes (walk area))
 
 -- "attribute area, kind and flags give a sheet"
-unfoldable pub sheetOf : (kind flags : ℕ) → List ℕ → List ℕ
-sheetOf kind flags area = sheetWith kind flags (attributes (walk area))
+abbrev pub sheetOf : (kind flags : ℕ) → List ℕ → List ℕ
+sheetOf = sheetAs current
 
 -- ---- Which sheets are written
 
@@ -108,45 +117,27 @@ pub record Readable (kind flags : ℕ) (area : List ℕ) : Type 0 where
   pub octets : Octets area
   pub accepted : areaRefusal kind flags area ≡ none
 
--- Demand 2: "a sheet is written exactly when some readable area has it"
-pub record Writable (sheet : List ℕ) : Type 0 where
+-- Demand 2: "a sheet is written exactly when some readable area has it", in a version
+pub record Writable (ver : Version) (sheet : List ℕ) : Type 0 where
   pub kind : ℕ
   pub flags : ℕ
   pub area : List ℕ
   pub readable : Readable kind flags area
-  pub has : sheet ≡ sheetOf kind flags area
+  pub has : sheet ≡ sheetAs ver kind flags area
 
 -- ---- The judgement of a sheet
-
--- "type, length, value"; for 3GPP the id, then "number, length m, value": the octets of an attribute
-unfoldable pub attributeOctets : (number : ℕ) → List ℕ → List ℕ
-attributeOctets n v =
-    cond (isPlain n) (n ∷ (length v + 2) ∷ v)
-    (26 ∷ (length v + 8) ∷ 0 ∷ 0 ∷ 40 ∷ 175 ∷ (n - 256) ∷ (length v + 2) ∷ v)
-
--- the area of some attributes
-unfoldable pub areaOf : List Attribute → List ℕ
-areaOf [] = []
-areaOf (a ∷ l) = attributeOctets (a .number) (a .value) ++ areaOf l
-
--- 23, "over-long values": a readable attribute carries the number with this value; a plain 26 is another vendor's
-unfoldable pub carries : (number : ℕ) → List ℕ → Bool
-carries n v =
-    cond (isPlain n)
-    (leb (length v) 253 && (not (eqb n 26) || (leb 5 (length v) && not (eqb (numberOf (take 4 v)) vendor3gpp))))
-    (leb (length v) 246)
 
 -- the number that an item's head names; form 0 of type 26 is another vendor's
 abbrev pub numberIn : (type sub form : ℕ) → ℕ
 numberIn t s f = cond (eqb t 26 && not (eqb f 0)) (gpp s) t
 
 -- the only value that an item of this head can stand for
-abbrev pub valueIn : (number form count : ℕ) → List ℕ → List ℕ
-valueIn n f c s = cond (leb f 1) s (valueOf (shapeOf n) c s)
+abbrev pub valueIn : Version → (number form count : ℕ) → List ℕ → List ℕ
+valueIn ver n f c s = cond (leb f 1) s (valueOf ver (shapeOf n) c s)
 
 -- "Stored octets are count, except form 4: half the count, rounded up", also in an unknown form
-abbrev pub storedLength : (form count : ℕ) → ℕ
-storedLength f c = cond (eqb f 4) (packedLength c) c
+abbrev pub storedLength : Version → (form count : ℕ) → ℕ
+storedLength ver f c = cond (eqb (formNamed ver f) 4) (packedLength c) c
 
 -- What stands at the front of some octets of a sheet: an item, with the number and value it stands for and all its octets,
 -- or a refusal.
@@ -155,24 +146,24 @@ pub data Entered : Type 0 where
   refused : (number : ℕ) → Entered
 
 -- 23: "an item that no readable attribute gives": the item of the number and value it stands for is not this one
-unfoldable pub judgedItem : (number : ℕ) (value item : List ℕ) → Entered
-judgedItem n v it = cond (carries n v && same (item n v) it) (holds n v (length it)) (refused 23)
+unfoldable pub judgedItem : Version → (number : ℕ) (value item : List ℕ) → Entered
+judgedItem ver n v it = cond (carries n v && same (item ver n v) it) (holds n v (length it)) (refused 23)
 
 -- an item whose head and stored octets are there
-unfoldable pub wholeItem : List ℕ → Entered
-wholeItem l =
+unfoldable pub wholeItem : Version → List ℕ → Entered
+wholeItem ver l =
     let t = getD l 0 0 in
     let f = getD l 2 0 in
     let c = getD l 3 0 in
     let n = numberIn t (getD l 1 0) f in
-    let size = 4 + storedLength f c in
-    judgedItem n (valueIn n f c (drop 4 (take size l))) (take size l)
+    let size = 4 + storedLength ver f c in
+    judgedItem ver n (valueIn ver n f c (drop 4 (take size l))) (take size l)
 
 -- 22: "an item's head or stored octets pass the end", before 23
-unfoldable pub entered : List ℕ → Entered
-entered l =
+unfoldable pub entered : Version → List ℕ → Entered
+entered ver l =
     cond (ltb (length l) 4) (refused 22)
-    (cond (ltb (length l) (4 + storedLength (getD l 2 0) (getD l 3 0))) (refused 22) (wholeItem l))
+    (cond (ltb (length l) (4 + storedLength ver (getD l 2 0) (getD l 3 0))) (refused 22) (wholeItem ver l))
 
 -- on from place p with what stands there; rest goes on after so many octets
 abbrev pub onItem : (p : ℕ) → (ℕ → Walk) → Entered → Walk
@@ -180,14 +171,14 @@ onItem p rest (holds n v size) = next (record { place = p; number = n; value = v
 onItem p rest (refused k) = broken k p
 
 -- the walk over so many items from place p on; 22: "or octets remain after the last item"
-unfoldable pub items : (count p : ℕ) → List ℕ → Walk
-items zero p [] = end
-items zero p (x ∷ l) = broken 22 p
-items (suc c) p l = onItem p (λ size. items c (p + size) (drop size l)) (entered l)
+unfoldable pub items : Version → (count p : ℕ) → List ℕ → Walk
+items ver zero p [] = end
+items ver zero p (x ∷ l) = broken 22 p
+items ver (suc c) p l = onItem p (λ size. items ver c (p + size) (drop size l)) (entered ver l)
 
--- "number of items as 16 bits", then the items from place 9 on
-unfoldable pub itemsIn : List ℕ → Walk
-itemsIn sheet = items (numberOf (take 2 (drop 7 sheet))) 9 (drop 9 sheet)
+-- the version by which a sheet is judged: there is one
+abbrev pub versionIn : List ℕ → Version
+versionIn sheet = one
 
 -- "kind" in a sheet
 abbrev pub kindIn : List ℕ → ℕ
@@ -197,13 +188,17 @@ kindIn sheet = getD sheet 5 0
 abbrev pub flagsIn : List ℕ → ℕ
 flagsIn sheet = getD sheet 6 0
 
+-- "number of items as 16 bits", then the items from place 9 on
+unfoldable pub itemsIn : List ℕ → Walk
+itemsIn sheet = items (versionIn sheet) (numberOf (take 2 (drop 7 sheet))) 9 (drop 9 sheet)
+
 -- the area that a sheet's items give
 unfoldable pub areaIn : List ℕ → List ℕ
 areaIn sheet = areaOf (attributes (itemsIn sheet))
 
 -- 20: "sheet under 9 octets, wrong mark or version"
 unfoldable pub marked : List ℕ → Bool
-marked sheet = leb 9 (length sheet) && same (take 5 sheet) mark
+marked sheet = leb 9 (length sheet) && same (take 5 sheet) (mark ++ octetsOf 2 (termsOf (versionIn sheet) .number))
 
 -- "For write: 20, 21, items ..": the first of 20 to 24 that applies
 unfoldable pub judged : List ℕ → Refusal
