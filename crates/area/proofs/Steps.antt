@@ -6,11 +6,10 @@ use native.Mathlib.Omega.{arith}
 use lib.ListN.{length, take, drop, length-drop}
 use lib.Seq.{drop-drop}
 use Rattle.meaning.specs.Octets.{Octets}
-use Rattle.meaning.specs.Framing.{Attribute, Found, attribute, refused, nothing, foundAt, end, broken, next, walkAt}
+use Rattle.meaning.specs.Framing.{Attribute, Found, attribute, refused, nothing, foundAt, end, broken, next, walkAt, Carried}
 use Rattle.meaning.proofs.Octets.{octets-take, octets-drop}
 use Rattle.meaning.proofs.Walks.{Sized, sized-at, walk-attribute, walk-broken, walk-ended}
 use Rattle.meaning.proofs.Framing.{Framed, FoundIn, found-in}
-use Rattle.meaning.proofs.RoundTrip.{Carried}
 use Rattle.area.specs.Answers.{stepOf}
 use Rattle.area.specs.declared.Refusal.{Refusal}
 use Rattle.area.specs.declared.Part.{Part}
