@@ -32,10 +32,18 @@ pub record Promise {X : Type 0} (answer : X) (lays : Answer (List ℕ)) (buffer 
   pub says : said ≡ answer
   pub holds : held ≡ after lays buffer
 
+-- ---- Read
+
 -- "Read: attribute area, kind and flags give a sheet"
 unfoldable pub readAnswer : (kind flags : ℕ) (area : List ℕ) (room : ℕ) → Answer (List ℕ)
 readAnswer kind flags area room =
     unless (areaOrder kind flags area 9 (length (sheetOf kind flags area)) room) (sheetOf kind flags area)
+
+-- what reading promises, its answer shown by the cases of an enum
+abbrev pub Reads :
+    {X : Type 0} (show : Answer (List ℕ) → X) (kind flags : ℕ) (area buffer : List ℕ) (said : X) (held : List ℕ) → Type 0
+Reads show kind flags area buffer said held =
+    Promise (show (readAnswer kind flags area (length buffer))) (readAnswer kind flags area (length buffer)) buffer said held
 
 -- "a list of breaches" of an area, its attributes taken from the walk
 unfoldable pub listOf : (kind flags : ℕ) (area : List ℕ) → List ℕ
@@ -62,3 +70,8 @@ writeAnswer sheet room =
 unfoldable pub areaAnswer : Answer Written → Answer (List ℕ)
 areaAnswer (given w) = given (w .area)
 areaAnswer (refused n s) = refused n s
+
+-- what writing promises, its answer shown by the cases of an enum
+abbrev pub Writes : {X : Type 0} (show : Answer Written → X) (sheet buffer : List ℕ) (said : X) (held : List ℕ) → Type 0
+Writes show sheet buffer said held =
+    Promise (show (writeAnswer sheet (length buffer))) (areaAnswer (writeAnswer sheet (length buffer))) buffer said held
