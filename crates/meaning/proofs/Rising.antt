@@ -4,11 +4,11 @@ use mathlib.Core.Path.{_≡_, refl, sym, ap, ap₂}
 use mathlib.Core.Logic.{_⊎_, inl, inr, ⊎-elim}
 use mathlib.Core.Bool.{Bool, true, false}
 use mathlib.Core.List.{List, [], _∷_, _++_, map}
-use Prim.Native.Nat.{ℕ, zero, suc, _≤_, _<_}
+use Prim.Native.Nat.{ℕ, suc, _≤_, _<_}
 use native.Mathlib.Omega.{arith}
 use lib.Dec.{T}
-use lib.ListN.{drop}
-use Rattle.meaning.specs.Breaches.{Among, RisingFrom, Lists, Candidate, put, chosen}
+use Rattle.meaning.specs.Breaches.{Among, RisingFrom, Lists}
+use Rattle.meaning.specs.Listing.{Candidate, put, chosen}
 
 -- ---- One of a list
 
@@ -25,11 +25,6 @@ among-left x (y ∷ l) m (inr p) = inr (among-left x l m p)
 pub among-right : {A : Type 0} (x : A) (l m : List A) → Among x m → Among x (l ++ m)
 among-right x [] m p = p
 among-right x (y ∷ l) m p = inr (among-right x l m p)
-
-pub among-drop : {A : Type 0} (x : A) (k : ℕ) (l : List A) → Among x (drop k l) → Among x l
-among-drop x zero l p = p
-among-drop x (suc k) [] p = p
-among-drop x (suc k) (y ∷ l) p = inr (among-drop x k l p)
 
 pub among-map : {A B : Type 0} (f : A → B) (x : A) (l : List A) → Among x l → Among (f x) (map f l)
 among-map f x [] p = p
@@ -159,6 +154,12 @@ Each P (c ∷ cs) = (T (c .stands) → P (c .key)) × Each P cs
 pub each-append : (P : ℕ → Type 0) (cs ds : List Candidate) → Each P cs → Each P ds → Each P (cs ++ ds)
 each-append P [] ds f g = g
 each-append P (c ∷ cs) ds f g = (f .0, each-append P cs ds (f .1) g)
+
+pub each-map : (P : ℕ → Type 0) (f : ℕ → Candidate) (l : List ℕ)
+    → ((n : ℕ) → T (f n .stands) → P (f n .key))
+    → Each P (map f l)
+each-map P f [] g = tt
+each-map P f (n ∷ l) g = (g n, each-map P f l g)
 
 pub each-chosen : (P : ℕ → Type 0) (cs : List Candidate) → Each P cs → (e : ℕ) → Chosen e cs → P e
 each-chosen P cs f e r = go cs f (r .among)
