@@ -173,7 +173,12 @@ sheets-say = refl
 
 -- ---- Refusals 9, 10 and 25: the room
 
-pub rooms-say : (readAnswer 4 0 areaA 24 ≡ given sheetA) × (readAnswer 4 0 areaA 23 ≡ refused 9 24) × (checkAnswer (comes 3 0) areaA 3 ≡ refused 10 4) × (writeAnswer sheetA 18 ≡ refused 25 19) × (writeAnswer sheetA 19 ≡ given (record { kind = 4; flags = 0; area = areaA }))
+pub rooms-say :
+    (readAnswer 4 0 areaA 24 ≡ given sheetA)
+    × (readAnswer 4 0 areaA 23 ≡ refused 9 24)
+    × (checkAnswer (comes 3 0) areaA 3 ≡ refused 10 4)
+    × (writeAnswer sheetA 18 ≡ refused 25 19)
+    × (writeAnswer sheetA 19 ≡ given (record { kind = 4; flags = 0; area = areaA }))
 unfolding computing
 rooms-say = (refl, refl, refl, refl, refl)
 

@@ -27,7 +27,8 @@ seven-asks = refl
 
 -- A bad PDP Type is misshapen, rule 1, and present: no entry of rule 7.
 pub bad-is-present :
-    listOf (comes 1 0) (plainRequest ++ attributeOctets 7 (0 ∷ 0 ∷ 0 ∷ 7 ∷ []) ++ attributeOctets (gpp 3) (0 ∷ [])) ≡ entry 18 1 (gpp 3) ∷ []
+    listOf (comes 1 0) (plainRequest ++ attributeOctets 7 (0 ∷ 0 ∷ 0 ∷ 7 ∷ []) ++ attributeOctets (gpp 3) (0 ∷ []))
+    ≡ entry 18 1 (gpp 3) ∷ []
 unfolding computing
 bad-is-present = refl
 
