@@ -10,11 +10,13 @@ use lib.ListN.{length, take, drop, length-append, length-drop}
 use lib.Seq.{take-at, drop-at}
 use Rattle.meaning.specs.Octets.{Octets}
 use Rattle.meaning.specs.Versions.{current}
+use Rattle.meaning.specs.Jobs.{Context}
 use Rattle.meaning.specs.Framing.{walk, attributes}
 use Rattle.meaning.specs.Refusals.{Refusal, none, refusal, first, tooShort, areaRefusal, areaOrder}
 use Rattle.meaning.specs.Sheet.{sheetOf, Readable, kindIn, flagsIn, areaIn, judged}
 use Rattle.meaning.specs.Breaches.{Breach, Lists}
-use Rattle.meaning.specs.Answers.{Answer, given, refused, unless, over, after, readAnswer, checkAnswer, listOf, Written, writeAnswer, Promise}
+use Rattle.meaning.specs.Listing.{listOf}
+use Rattle.meaning.specs.Answers.{Answer, given, refused, unless, over, after, readAnswer, checkAnswer, Written, writeAnswer, Promise}
 use Rattle.meaning.proofs.Sheets.{first-none, when-is-none, sheet-goes-back, accepted-sheet}
 use Rattle.meaning.proofs.Rising.{one-list}
 use Rattle.meaning.proofs.Placed.{list-lists}
@@ -50,10 +52,6 @@ module _ (kind flags : ℕ) (area : List ℕ) (room : ℕ) where
   unfolding readAnswer areaOrder
   read-roomy h = rw (roomy (areaRefusal kind flags area) 9 (length (sheetOf kind flags area)) room h)
 
-  pub check-roomy : length (listOf kind flags area) ≤ room → checkAnswer kind flags area room ≡ unless (areaRefusal kind flags area) (listOf kind flags area)
-  unfolding checkAnswer areaOrder
-  check-roomy h = rw (roomy (areaRefusal kind flags area) 10 (length (listOf kind flags area)) room h)
-
   -- An area is read exactly when nothing of 1 to 8 applies and there is room, and then the answer is its sheet.
   pub read-exactly : (s : List ℕ) → readAnswer kind flags area room ≡ given s ↔ ((areaRefusal kind flags area ≡ none) × (length (sheetOf kind flags area) ≤ room) × (s ≡ sheetOf kind flags area))
   unfolding readAnswer areaOrder
@@ -71,15 +69,28 @@ module _ (kind flags : ℕ) (area : List ℕ) (room : ℕ) where
       back : (areaRefusal kind flags area ≡ none) × (length (sheetOf kind flags area) ≤ room) × (s ≡ sheetOf kind flags area) → unless (first (areaRefusal kind flags area) (tooShort 9 (length (sheetOf kind flags area)) room)) (sheetOf kind flags area) ≡ given s
       back p = rw (roomy (areaRefusal kind flags area) 9 needed room (p .1), p .0, p .2)
 
+module _ (c : Context) (area : List ℕ) (room : ℕ) where
+  pub check-roomy : length (listOf c area) ≤ room
+      → checkAnswer c area room ≡ unless (areaRefusal (c .kind) (c .flags) area) (listOf c area)
+  unfolding checkAnswer areaOrder
+  check-roomy h = rw (roomy (areaRefusal (c .kind) (c .flags) area) 10 (length (listOf c area)) room h)
+
   -- The list of a check is the list of the breaches, and no other list is.
-  pub check-lists : (l : List ℕ) → Octets area → checkAnswer kind flags area room ≡ given l → Lists l (Breach kind flags (length area) (attributes (walk area)))
+  pub check-lists : (l : List ℕ)
+      → Octets area
+      → checkAnswer c area room ≡ given l
+      → Lists l (Breach c (length area) (attributes (walk area)))
   unfolding checkAnswer areaOrder
   check-lists l o e =
-      let u = unless-given (first (areaRefusal kind flags area) (tooShort 10 (length (listOf kind flags area)) room)) (listOf kind flags area) l e in
-      rw (u .1) at (list-lists kind flags area o)
+      let order = first (areaRefusal (c .kind) (c .flags) area) (tooShort 10 (length (listOf c area)) room) in
+      rw (unless-given order (listOf c area) l e .1) at (list-lists c area o)
 
-  pub check-only : (l m : List ℕ) → Octets area → checkAnswer kind flags area room ≡ given l → Lists m (Breach kind flags (length area) (attributes (walk area))) → m ≡ l
-  check-only l m o e p = one-list (Breach kind flags (length area) (attributes (walk area))) m l p (check-lists l o e)
+  pub check-only : (l m : List ℕ)
+      → Octets area
+      → checkAnswer c area room ≡ given l
+      → Lists m (Breach c (length area) (attributes (walk area)))
+      → m ≡ l
+  check-only l m o e p = one-list (Breach c (length area) (attributes (walk area))) m l p (check-lists l o e)
 
 -- ---- Write
 

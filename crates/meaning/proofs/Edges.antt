@@ -6,10 +6,12 @@ use Prim.Native.Nat.{ℕ, _*_}
 use lib.ListN.{replicate}
 use Rattle.meaning.specs.Versions.{current}
 use Rattle.meaning.specs.Framing.{gpp, attributeOctets}
+use Rattle.meaning.specs.Jobs.{comes}
 use Rattle.meaning.specs.Refusals.{Refusal, none, refusal, areaRefusal}
 use Rattle.meaning.specs.Sheet.{form, stored, mark, judged}
 use Rattle.meaning.specs.Breaches.{entry}
-use Rattle.meaning.specs.Answers.{given, refused, readAnswer, checkAnswer, writeAnswer, listOf}
+use Rattle.meaning.specs.Listing.{listOf}
+use Rattle.meaning.specs.Answers.{given, refused, readAnswer, checkAnswer, writeAnswer}
 use Rattle.meaning.specs.Seen.{areaA, sheetA}
 use Rattle.meaning.proofs.Computing.{computing}
 
@@ -177,7 +179,12 @@ sheets-say = refl
 
 -- ---- Refusals 9, 10 and 25: the room
 
-pub rooms-say : (readAnswer 4 0 areaA 24 ≡ given sheetA) × (readAnswer 4 0 areaA 23 ≡ refused 9 24) × (checkAnswer 3 0 areaA 3 ≡ refused 10 4) × (writeAnswer sheetA 18 ≡ refused 25 19) × (writeAnswer sheetA 19 ≡ given (record { kind = 4; flags = 0; area = areaA }))
+pub rooms-say :
+    (readAnswer 4 0 areaA 24 ≡ given sheetA)
+    × (readAnswer 4 0 areaA 23 ≡ refused 9 24)
+    × (checkAnswer (comes 3 0) areaA 3 ≡ refused 10 4)
+    × (writeAnswer sheetA 18 ≡ refused 25 19)
+    × (writeAnswer sheetA 19 ≡ given (record { kind = 4; flags = 0; area = areaA }))
 unfolding computing
 rooms-say = (refl, refl, refl, refl, refl)
 
@@ -249,6 +256,6 @@ lists =
     ∷ counts 4 0 7 (attributeOctets (gpp 12) (0x30 ∷ []) ++ attributeOctets (gpp 13) (0x30 ∷ [])) (entry 39 4 (gpp 12) ∷ [])
     ∷ []
 
-pub lists-say : map (λ (c : OfList). listOf (c .kind) (c .flags) (c .area)) lists ≡ map (λ (c : OfList). c .says) lists
+pub lists-say : map (λ (c : OfList). listOf (comes (c .kind) (c .flags)) (c .area)) lists ≡ map (λ (c : OfList). c .says) lists
 unfolding computing
 lists-say = refl

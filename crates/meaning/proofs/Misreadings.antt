@@ -6,10 +6,11 @@ use Prim.Native.Nat.{ℕ}
 use lib.ListN.{replicate}
 use Rattle.meaning.specs.Versions.{current}
 use Rattle.meaning.specs.Framing.{gpp, attributeOctets}
+use Rattle.meaning.specs.Jobs.{comes}
 use Rattle.meaning.specs.Refusals.{none, refusal, areaRefusal}
 use Rattle.meaning.specs.Sheet.{item}
 use Rattle.meaning.specs.Breaches.{entry}
-use Rattle.meaning.specs.Answers.{listOf}
+use Rattle.meaning.specs.Listing.{listOf}
 use Rattle.meaning.proofs.Computing.{computing}
 
 -- an Access-Request without a departure: User-Name, NAS-IP-Address and Called-Station-Id
@@ -17,30 +18,34 @@ abbrev pub plainRequest : List ℕ
 plainRequest = attributeOctets 1 (65 ∷ []) ++ attributeOctets 4 (10 ∷ 0 ∷ 0 ∷ 1 ∷ []) ++ attributeOctets 30 (65 ∷ [])
 
 -- Attribute 7 is Framed-Protocol, not 3GPP 7: the GGSN address asks for no 3GPP 3, a Framed-Protocol does.
-pub seven-is-plain : listOf 1 0 (plainRequest ++ attributeOctets (gpp 7) (10 ∷ 0 ∷ 0 ∷ 2 ∷ [])) ≡ []
+pub seven-is-plain : listOf (comes 1 0) (plainRequest ++ attributeOctets (gpp 7) (10 ∷ 0 ∷ 0 ∷ 2 ∷ [])) ≡ []
 unfolding computing
 seven-is-plain = refl
 
-pub seven-asks : listOf 1 0 (plainRequest ++ attributeOctets 7 (0 ∷ 0 ∷ 0 ∷ 7 ∷ [])) ≡ entry 18 7 (gpp 3) ∷ []
+pub seven-asks : listOf (comes 1 0) (plainRequest ++ attributeOctets 7 (0 ∷ 0 ∷ 0 ∷ 7 ∷ [])) ≡ entry 18 7 (gpp 3) ∷ []
 unfolding computing
 seven-asks = refl
 
 -- A bad PDP Type is misshapen, rule 1, and present: no entry of rule 7.
-pub bad-is-present : listOf 1 0 (plainRequest ++ attributeOctets 7 (0 ∷ 0 ∷ 0 ∷ 7 ∷ []) ++ attributeOctets (gpp 3) (0 ∷ [])) ≡ entry 18 1 (gpp 3) ∷ []
+pub bad-is-present :
+    listOf (comes 1 0) (plainRequest ++ attributeOctets 7 (0 ∷ 0 ∷ 0 ∷ 7 ∷ []) ++ attributeOctets (gpp 3) (0 ∷ []))
+    ≡ entry 18 1 (gpp 3) ∷ []
 unfolding computing
 bad-is-present = refl
 
 -- A 5-digit MCC-MNC is packed as five, its last low half 15; six digits are another item.
-pub five-digits : item current (gpp 8) (0x30 ∷ 0x30 ∷ 0x31 ∷ 0x30 ∷ 0x31 ∷ []) ≡ 0x1A ∷ 0x08 ∷ 0x04 ∷ 0x05 ∷ 0x00 ∷ 0x10 ∷ 0x1F ∷ []
+pub five-digits :
+    item current (gpp 8) (0x30 ∷ 0x30 ∷ 0x31 ∷ 0x30 ∷ 0x31 ∷ []) ≡ 0x1A ∷ 0x08 ∷ 0x04 ∷ 0x05 ∷ 0x00 ∷ 0x10 ∷ 0x1F ∷ []
 unfolding computing
 five-digits = refl
 
-pub six-digits : item current (gpp 8) (0x30 ∷ 0x30 ∷ 0x31 ∷ 0x30 ∷ 0x31 ∷ 0x30 ∷ []) ≡ 0x1A ∷ 0x08 ∷ 0x04 ∷ 0x06 ∷ 0x00 ∷ 0x10 ∷ 0x10 ∷ []
+pub six-digits :
+    item current (gpp 8) (0x30 ∷ 0x30 ∷ 0x31 ∷ 0x30 ∷ 0x31 ∷ 0x30 ∷ []) ≡ 0x1A ∷ 0x08 ∷ 0x04 ∷ 0x06 ∷ 0x00 ∷ 0x10 ∷ 0x10 ∷ []
 unfolding computing
 six-digits = refl
 
 -- Rule 3 looks at every earlier attribute, not at neighbours only.
-pub far-apart : listOf 1 0 (plainRequest ++ attributeOctets 1 (66 ∷ [])) ≡ entry 12 3 1 ∷ []
+pub far-apart : listOf (comes 1 0) (plainRequest ++ attributeOctets 1 (66 ∷ [])) ≡ entry 12 3 1 ∷ []
 unfolding computing
 far-apart = refl
 

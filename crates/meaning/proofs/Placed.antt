@@ -6,17 +6,21 @@ use native.Mathlib.Nat.{zero-add}
 use mathlib.Core.Path.{_≡_}
 use lib.ListN.{length}
 use Rattle.meaning.specs.Octets.{Octets}
+use Rattle.meaning.specs.Jobs.{Context}
 use Rattle.meaning.specs.Framing.{Attribute, Found, attribute, refused, nothing, found, Walk, onward, from, walkAt, walk, attributes}
 use Rattle.meaning.specs.Breaches.{Lists, Breach}
-use Rattle.meaning.specs.Answers.{listOf}
+use Rattle.meaning.specs.Listing.{listOf}
 use Rattle.meaning.proofs.Framing.{FoundIn, found-in}
 use Rattle.meaning.proofs.Breaches.{Placed, breaches-lists}
 
-placed-lower : (p q length : ℕ) (l : List Attribute) → p ≤ q → Placed q l length → Placed p l length
-placed-lower p q length [] h w = omega arith
-placed-lower p q length (a ∷ l) h w = (omega arith, w .1, w .2)
+placed-lower : (p q size : ℕ) (l : List Attribute) → p ≤ q → Placed q l size → Placed p l size
+placed-lower p q size [] h w = omega arith
+placed-lower p q size (a ∷ l) h w = (omega arith, w .1, w .2)
 
-onward-placed : (p : ℕ) (l : List ℕ) (rest : ℕ → Walk) (to : ℕ) → p ≤ to → ((k : ℕ) → Placed (suc p) (attributes (rest k)) to) → (f : Found) → FoundIn l f → Placed p (attributes (onward p l rest f)) to
+onward-placed : (p : ℕ) (l : List ℕ) (rest : ℕ → Walk) (to : ℕ)
+    → p ≤ to
+    → ((k : ℕ) → Placed (suc p) (attributes (rest k)) to)
+    → (f : Found) → FoundIn l f → Placed p (attributes (onward p l rest f)) to
 unfolding attributes
 onward-placed p l rest to h placed (attribute n head size) g = (omega arith, g .low, placed _)
 onward-placed p l rest to h placed (refused k) g = h
@@ -35,6 +39,8 @@ pub walk-placed : (area : List ℕ) → Octets area → Placed 0 (attributes (wa
 unfolding walk walkAt
 walk-placed area o = from-placed 0 0 area (length area) o (zero-add (length area))
 
-pub list-lists : (kind flags : ℕ) (area : List ℕ) → Octets area → Lists (listOf kind flags area) (Breach kind flags (length area) (attributes (walk area)))
+pub list-lists : (c : Context) (area : List ℕ)
+    → Octets area
+    → Lists (listOf c area) (Breach c (length area) (attributes (walk area)))
 unfolding listOf
-list-lists kind flags area o = breaches-lists kind flags (length area) (attributes (walk area)) (walk-placed area o)
+list-lists c area o = breaches-lists c (length area) (attributes (walk area)) (walk-placed area o)

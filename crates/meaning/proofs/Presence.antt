@@ -7,8 +7,9 @@ use native.Mathlib.Omega.{arith}
 use native.Mathlib.Decide.{ℕ-discrete}
 use lib.Dec.{T, eqb, leb, leb→le}
 use Rattle.meaning.specs.Octets.{isIn}
-use Rattle.meaning.specs.Jobs.{isKind}
-use Rattle.meaning.specs.Presence.{neverHere, asksClass, notPermitted, mandatory, withPap, withChap, withClass, conditional, code, codeBars, codeDemands, codeWants}
+use Rattle.meaning.specs.Jobs.{isKind, Context, comes}
+use Rattle.meaning.specs.Presence.{neverHere, asksClass, notPermitted, mandatory, withPap, withChap, withClass, conditional}
+use Rattle.meaning.specs.Codes.{code, codeBars, codeDemands, codeWants}
 use Rattle.meaning.proofs.Tests.{parts}
 
 -- ---- Two lines that a computed test finds the same at every kind and number
@@ -30,58 +31,60 @@ same true false t = absurd t
 same false true t = absurd t
 same false false t = refl
 
--- the test over the kinds up to 6 and the numbers below 256
-abbrev agree : (f g : (kind number : ℕ) → Bool) → Bool
-agree f g = below 7 (λ kind. below 256 (λ n. Bool·beq (f kind n) (g kind n)))
+-- the test over the kinds up to 6 and the numbers below 256; what is tested does not read the flags
+abbrev agree : (f g : Context → ℕ → Bool) → Bool
+agree f g = below 7 (λ kind. below 256 (λ n. Bool·beq (f (comes kind 0) n) (g (comes kind 0) n)))
 
-module _ (kind n : ℕ) (k : T (isKind kind)) (h : n < 256) where
-  agree-at : (f g : (kind number : ℕ) → Bool) → T (agree f g) → f kind n ≡ g kind n
+module _ (c : Context) (n : ℕ) (k : T (isKind (c .kind))) (h : n < 256) where
+  agree-at : (f g : Context → ℕ → Bool) → T (agree f g) → f (comes (c .kind) 0) n ≡ g (comes (c .kind) 0) n
   unfolding isKind
   agree-at f g t =
+      let kind = c .kind in
       let top : kind < 7 = omega (arith, leb→le kind 6 (parts (leb 1 kind) (leb kind 6) k .1)) in
-      let at-kind = below-at 7 (λ j. below 256 (λ m. Bool·beq (f j m) (g j m))) t kind top in
-      same (f kind n) (g kind n) (below-at 256 (λ m. Bool·beq (f kind m) (g kind m)) at-kind n h)
+      let at-kind = below-at 7 (λ j. below 256 (λ m. Bool·beq (f (comes j 0) m) (g (comes j 0) m))) t kind top in
+      same (f (comes kind 0) n) (g (comes kind 0) n)
+      (below-at 256 (λ m. Bool·beq (f (comes kind 0) m) (g (comes kind 0) m)) at-kind n h)
 
   -- ---- What each code stands for
 
-  says-mandatory : eqb (code kind n) 1 ≡ mandatory kind n
+  says-mandatory : eqb (code c n) 1 ≡ mandatory c n
   unfolding code mandatory
-  says-mandatory = agree-at (λ k n. eqb (code k n) 1) mandatory tt
+  says-mandatory = agree-at (λ c n. eqb (code c n) 1) mandatory tt
 
-  says-never : eqb (code kind n) 2 ≡ neverHere kind n
+  says-never : eqb (code c n) 2 ≡ neverHere (c .kind) n
   unfolding code mandatory
-  says-never = agree-at (λ k n. eqb (code k n) 2) neverHere tt
+  says-never = agree-at (λ c n. eqb (code c n) 2) (λ c. neverHere (c .kind)) tt
 
-  says-asked : isIn (code kind n) (3 ∷ 4 ∷ []) ≡ asksClass kind n
+  says-asked : isIn (code c n) (3 ∷ 4 ∷ []) ≡ asksClass (c .kind) n
   unfolding code mandatory
-  says-asked = agree-at (λ k n. isIn (code k n) (3 ∷ 4 ∷ [])) asksClass tt
+  says-asked = agree-at (λ c n. isIn (code c n) (3 ∷ 4 ∷ [])) (λ c. asksClass (c .kind)) tt
 
-  says-class : eqb (code kind n) 4 ≡ withClass kind n
+  says-class : eqb (code c n) 4 ≡ withClass (c .kind) n
   unfolding code mandatory
-  says-class = agree-at (λ k n. eqb (code k n) 4) withClass tt
+  says-class = agree-at (λ c n. eqb (code c n) 4) (λ c. withClass (c .kind)) tt
 
-  says-pap : eqb (code kind n) 5 ≡ withPap kind n
+  says-pap : eqb (code c n) 5 ≡ withPap (c .kind) n
   unfolding code mandatory
-  says-pap = agree-at (λ k n. eqb (code k n) 5) withPap tt
+  says-pap = agree-at (λ c n. eqb (code c n) 5) (λ c. withPap (c .kind)) tt
 
-  says-chap : eqb (code kind n) 6 ≡ withChap kind n
+  says-chap : eqb (code c n) 6 ≡ withChap (c .kind) n
   unfolding code mandatory
-  says-chap = agree-at (λ k n. eqb (code k n) 6) withChap tt
+  says-chap = agree-at (λ c n. eqb (code c n) 6) (λ c. withChap (c .kind)) tt
 
-  says-name : eqb (code kind n) 7 ≡ eqb n 4
+  says-name : eqb (code c n) 7 ≡ eqb n 4
   unfolding code mandatory
-  says-name = agree-at (λ k n. eqb (code k n) 7) (λ k n. eqb n 4) tt
+  says-name = agree-at (λ c n. eqb (code c n) 7) (λ c n. eqb n 4) tt
 
   -- ---- The rules by the code
 
-  pub code-bars : (flags : ℕ) → codeBars (code kind n) flags ≡ notPermitted kind flags n
+  pub code-bars : codeBars (code c n) (c .flags) ≡ notPermitted c n
   unfolding codeBars notPermitted
-  code-bars flags = rw (says-never, says-asked)
+  code-bars = rw (says-never, says-asked)
 
-  pub code-demands : codeDemands (code kind n) ≡ mandatory kind n
+  pub code-demands : codeDemands (code c n) ≡ mandatory c n
   unfolding codeDemands
   code-demands = says-mandatory
 
-  pub code-wants : (flags : ℕ) (named : Bool) → codeWants (code kind n) flags named ≡ conditional kind flags n || (eqb n 4 && not named)
+  pub code-wants : (named : Bool) → codeWants (code c n) (c .flags) named ≡ conditional c n || (eqb n 4 && not named)
   unfolding codeWants conditional
-  code-wants flags named = rw (says-pap, says-chap, says-class, says-name)
+  code-wants named = rw (says-pap, says-chap, says-class, says-name)

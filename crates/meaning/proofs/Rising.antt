@@ -4,11 +4,11 @@ use mathlib.Core.Path.{_≡_, refl, sym, ap, ap₂}
 use mathlib.Core.Logic.{_⊎_, inl, inr, ⊎-elim}
 use mathlib.Core.Bool.{Bool, true, false}
 use mathlib.Core.List.{List, [], _∷_, _++_, map}
-use Prim.Native.Nat.{ℕ, zero, suc, _≤_, _<_}
+use Prim.Native.Nat.{ℕ, suc, _≤_, _<_}
 use native.Mathlib.Omega.{arith}
 use lib.Dec.{T}
-use lib.ListN.{drop}
-use Rattle.meaning.specs.Breaches.{Among, RisingFrom, Lists, Candidate, put, chosen}
+use Rattle.meaning.specs.Breaches.{Among, RisingFrom, Lists}
+use Rattle.meaning.specs.Listing.{Candidate, put, chosen}
 
 -- ---- One of a list
 
@@ -26,11 +26,6 @@ pub among-right : {A : Type 0} (x : A) (l m : List A) → Among x m → Among x 
 among-right x [] m p = p
 among-right x (y ∷ l) m p = inr (among-right x l m p)
 
-pub among-drop : {A : Type 0} (x : A) (k : ℕ) (l : List A) → Among x (drop k l) → Among x l
-among-drop x zero l p = p
-among-drop x (suc k) [] p = p
-among-drop x (suc k) (y ∷ l) p = inr (among-drop x k l p)
-
 pub among-map : {A B : Type 0} (f : A → B) (x : A) (l : List A) → Among x l → Among (f x) (map f l)
 among-map f x [] p = p
 among-map f x (y ∷ l) (inl p) = inl (ap f p)
@@ -43,7 +38,12 @@ among-from b [] r e m = absurd m
 among-from b (x ∷ l) r e (inl p) = omega arith
 among-from b (x ∷ l) r e (inr m) = let h = among-from (suc x) l (r .1) e m in omega arith
 
-same-rising : (b : ℕ) (l m : List ℕ) → RisingFrom b l → RisingFrom b m → ((e : ℕ) → Among e l → Among e m) → ((e : ℕ) → Among e m → Among e l) → l ≡ m
+same-rising : (b : ℕ) (l m : List ℕ)
+    → RisingFrom b l
+    → RisingFrom b m
+    → ((e : ℕ) → Among e l → Among e m)
+    → ((e : ℕ) → Among e m → Among e l)
+    → l ≡ m
 same-rising b [] [] r s f g = refl
 same-rising b [] (y ∷ m) r s f g = absurd (g y (inl refl))
 same-rising b (x ∷ l) [] r s f g = absurd (f x (inl refl))
@@ -160,6 +160,12 @@ pub each-append : (P : ℕ → Type 0) (cs ds : List Candidate) → Each P cs �
 each-append P [] ds f g = g
 each-append P (c ∷ cs) ds f g = (f .0, each-append P cs ds (f .1) g)
 
+pub each-map : (P : ℕ → Type 0) (f : ℕ → Candidate) (l : List ℕ)
+    → ((n : ℕ) → T (f n .stands) → P (f n .key))
+    → Each P (map f l)
+each-map P f [] g = tt
+each-map P f (n ∷ l) g = (g n, each-map P f l g)
+
 pub each-chosen : (P : ℕ → Type 0) (cs : List Candidate) → Each P cs → (e : ℕ) → Chosen e cs → P e
 each-chosen P cs f e r = go cs f (r .among)
   where
@@ -168,7 +174,11 @@ each-chosen P cs f e r = go cs f (r .among)
     go (c ∷ cs) f (inl p) = rw (r .named, p) (f .0 (rw p at (r .passes)))
     go (c ∷ cs) f (inr m) = go cs (f .1) m
 
-pub chosen-lists : (P : ℕ → Type 0) (b t : ℕ) (cs : List Candidate) → Ordered b cs t → ((e : ℕ) → Chosen e cs → P e) → ((e : ℕ) → P e → Chosen e cs) → Lists (chosen cs) P
+pub chosen-lists : (P : ℕ → Type 0) (b t : ℕ) (cs : List Candidate)
+    → Ordered b cs t
+    → ((e : ℕ) → Chosen e cs → P e)
+    → ((e : ℕ) → P e → Chosen e cs)
+    → Lists (chosen cs) P
 chosen-lists P b t cs o sound whole =
     record {
       rising = rising-lower 0 b (chosen cs) (omega arith) (chosen-rising b t cs o);

@@ -5,9 +5,11 @@ use mathlib.Core.List.{List, [], _∷_, map}
 use Prim.Native.Nat.{ℕ}
 use lib.Dec.{T, ltb, ltb→lt}
 use Rattle.meaning.specs.Octets.{all, Octets}
+use Rattle.meaning.specs.Jobs.{comes}
 use Rattle.meaning.specs.Refusals.{areaRefusal}
 use Rattle.meaning.specs.Sheet.{sheetOf}
-use Rattle.meaning.specs.Answers.{Answer, given, refused, unless, listOf}
+use Rattle.meaning.specs.Answers.{Answer, given, refused, unless}
+use Rattle.meaning.specs.Listing.{listOf}
 use Rattle.meaning.specs.Seen.{Job, read, check, Case, cases, Meant}
 use Rattle.meaning.proofs.Tests.{parts}
 use Rattle.meaning.proofs.Computing.{computing}
@@ -17,18 +19,21 @@ use Rattle.meaning.proofs.Placed.{list-lists}
 -- the answer to a case, given room
 abbrev answerTo : Job → (kind flags : ℕ) → List ℕ → Answer (List ℕ)
 answerTo read kind flags area = unless (areaRefusal kind flags area) (sheetOf kind flags area)
-answerTo check kind flags area = unless (areaRefusal kind flags area) (listOf kind flags area)
+answerTo check kind flags area = unless (areaRefusal kind flags area) (listOf (comes kind flags) area)
 
 -- a computed answer means what document 01 says
-meant : (job : Job) (kind flags : ℕ) (area : List ℕ) (a : Answer (List ℕ)) → Octets area → answerTo job kind flags area ≡ a → Meant job kind flags area a
+meant : (job : Job) (kind flags : ℕ) (area : List ℕ) (a : Answer (List ℕ))
+    → Octets area
+    → answerTo job kind flags area ≡ a
+    → Meant job kind flags area a
 meant read kind flags area (given s) o e =
     let u = unless-given (areaRefusal kind flags area) (sheetOf kind flags area) s e in
     (u .0, sym (u .1))
 meant check kind flags area (given l) o e =
-    let u = unless-given (areaRefusal kind flags area) (listOf kind flags area) l e in
-    (u .0, rw (u .1) at (list-lists kind flags area o))
+    let u = unless-given (areaRefusal kind flags area) (listOf (comes kind flags) area) l e in
+    (u .0, rw (u .1) at (list-lists (comes kind flags) area o))
 meant read kind flags area (refused n s) o e = unless-refused (areaRefusal kind flags area) (sheetOf kind flags area) n s e
-meant check kind flags area (refused n s) o e = unless-refused (areaRefusal kind flags area) (listOf kind flags area) n s e
+meant check kind flags area (refused n s) o e = unless-refused (areaRefusal kind flags area) (listOf (comes kind flags) area) n s e
 
 abbrev pub Each : (Case → Type 0) → List Case → Type 0
 Each P [] = Unit {0}
@@ -46,7 +51,10 @@ computed : map (λ (c : Case). answerTo (c .job) (c .kind) (c .flags) (c .area))
 unfolding computing
 computed = refl
 
-each : (l : List Case) → Each (λ (c : Case). T (all (λ x. ltb x 256) (c .area))) l → map (λ (c : Case). answerTo (c .job) (c .kind) (c .flags) (c .area)) l ≡ map (λ (c : Case). c .says) l → Each (λ (c : Case). Meant (c .job) (c .kind) (c .flags) (c .area) (c .says)) l
+each : (l : List Case)
+    → Each (λ (c : Case). T (all (λ x. ltb x 256) (c .area))) l
+    → map (λ (c : Case). answerTo (c .job) (c .kind) (c .flags) (c .area)) l ≡ map (λ (c : Case). c .says) l
+    → Each (λ (c : Case). Meant (c .job) (c .kind) (c .flags) (c .area) (c .says)) l
 each [] o e = tt
 each (c ∷ l) o e = (meant (c .job) (c .kind) (c .flags) (c .area) (c .says) (octets-of (c .area) (o .0)) (cc), each l (o .1) (cc))
 

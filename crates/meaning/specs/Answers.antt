@@ -3,10 +3,10 @@ use mathlib.Core.Path.{_≡_}
 use Prim.Native.Nat.{ℕ}
 use mathlib.Core.List.{List, _++_}
 use lib.ListN.{length, drop}
-use Rattle.meaning.specs.Framing.{walk, attributes}
+use Rattle.meaning.specs.Jobs.{Context}
 use Rattle.meaning.specs.Refusals.{Refusal, none, refusal, first, tooShort, areaOrder}
 use Rattle.meaning.specs.Sheet.{sheetOf, kindIn, flagsIn, areaIn, judged}
-use Rattle.meaning.specs.Breaches.{breaches}
+use Rattle.meaning.specs.Listing.{listOf}
 
 -- what was asked for, or the refusal by its number and second number
 pub data Answer (A : Type 0) : Type 0 where
@@ -45,14 +45,19 @@ abbrev pub Reads :
 Reads show kind flags area buffer said held =
     Promise (show (readAnswer kind flags area (length buffer))) (readAnswer kind flags area (length buffer)) buffer said held
 
--- "a list of breaches" of an area, its attributes taken from the walk
-unfoldable pub listOf : (kind flags : ℕ) (area : List ℕ) → List ℕ
-listOf kind flags area = breaches kind flags (length area) (attributes (walk area))
+-- ---- Check
 
 -- "Check: the same inputs give a list of breaches"
-unfoldable pub checkAnswer : (kind flags : ℕ) (area : List ℕ) (room : ℕ) → Answer (List ℕ)
-checkAnswer kind flags area room =
-    unless (areaOrder kind flags area 10 (length (listOf kind flags area)) room) (listOf kind flags area)
+unfoldable pub checkAnswer : Context → (area : List ℕ) (room : ℕ) → Answer (List ℕ)
+checkAnswer c area room =
+    unless (areaOrder (c .kind) (c .flags) area 10 (length (listOf c area)) room) (listOf c area)
+
+-- what checking promises, its answer shown by the cases of an enum
+abbrev pub Checks : {X : Type 0} (show : Answer (List ℕ) → X) → Context → (area buffer : List ℕ) (said : X) (held : List ℕ) → Type 0
+Checks show c area buffer said held =
+    Promise (show (checkAnswer c area (length buffer))) (checkAnswer c area (length buffer)) buffer said held
+
+-- ---- Write
 
 -- "a sheet gives back area, kind and flags"
 pub record Written : Type 0 where

@@ -3,11 +3,12 @@
 use mathlib.Core.Path.{_≡_}
 use mathlib.Core.Logic.{_⊎_, _↔_}
 use Prim.Native.Nat.{ℕ, suc, _+_, _*_, _≤_}
-use mathlib.Core.Bool.{Bool, true, false, not, _&&_, _||_}
-use mathlib.Core.List.{List, [], _∷_, _++_, map}
+use mathlib.Core.Bool.{Bool, not, _&&_, _||_}
+use mathlib.Core.List.{List, [], _∷_, _++_}
 use lib.Dec.{T, eqb}
 use Rattle.meaning.specs.Octets.{isIn, between}
 use Rattle.meaning.specs.Versions.{current}
+use Rattle.meaning.specs.Jobs.{Context}
 use Rattle.meaning.specs.Framing.{gpp, Attribute}
 use Rattle.meaning.specs.Shapes.{shapeOf, meets, allowed}
 use Rattle.meaning.specs.Sheet.{typeOf, subOf}
@@ -19,13 +20,17 @@ entry place rule n = place * 1048576 + (rule * 65536 + (typeOf n * 256 + subOf n
 
 -- ---- The lines of the rules
 
+-- "shape met", of an attribute
+abbrev pub met : Attribute → Bool
+met a = meets current (shapeOf (a .number)) (a .value)
+
 -- rule 1: "it has a shape and misses it"
 unfoldable pub misses : Attribute → Bool
-misses a = not (meets current (shapeOf (a .number)) (a .value))
+misses a = not (met a)
 
 -- rule 2: "shape met, value not allowed"
-unfoldable pub offends : (kind : ℕ) → Attribute → Bool
-offends kind a = meets current (shapeOf (a .number)) (a .value) && not (allowed kind (a .number) (a .value))
+unfoldable pub offends : Context → Attribute → Bool
+offends c a = met a && not (allowed c (a .number) (a .value))
 
 -- "3GPP 1 to 12, 18"
 abbrev pub isListed3gpp : (number : ℕ) → Bool
@@ -37,13 +42,13 @@ onceOnly n =
     between 1 4 n || (between 6 9 n || (between 30 32 n || (between 40 49 n || (isIn n (60 ∷ 61 ∷ []) || isListed3gpp n))))
 
 -- rule 4: "not permitted here: 3GPP 11 outside kind 3; 3GPP 1 to 12, 18 in kinds 4 and 5", and the plain lines
-unfoldable pub barred : (kind flags number : ℕ) → Bool
-barred kind flags n =
-    (eqb n (gpp 11) && not (eqb kind 3)) || ((between 4 5 kind && isListed3gpp n) || notPermitted kind flags n)
+unfoldable pub barred : Context → (number : ℕ) → Bool
+barred c n =
+    (eqb n (gpp 11) && not (eqb (c .kind) 3)) || ((between 4 5 (c .kind) && isListed3gpp n) || notPermitted c n)
 
 -- rule 7: "Kinds 1, 2, 3, 6", where 3GPP 3 goes with plain attribute 7
-abbrev pub asksPdpType : (kind : ℕ) → Bool
-asksPdpType kind = eqb kind 1 || isSession kind
+abbrev pub asksPdpType : Context → Bool
+asksPdpType c = eqb (c .kind) 1 || isSession (c .kind)
 
 -- ---- The relation
 
@@ -68,20 +73,21 @@ pub record After (l : List Attribute) (a : Attribute) (earlier : List Attribute)
   pub whole : l ≡ earlier ++ a ∷ later
 
 -- rule 7: "conditional", n being wanted among the attributes l
-pub data Wanted (kind flags : ℕ) (l : List Attribute) (n : ℕ) : Type 0 where
-  byName : Absent 32 l → n ≡ 4 → Wanted kind flags l n
-  byFlags : T (conditional kind flags n) → Wanted kind flags l n
-  byProtocol : T (asksPdpType kind) → Present 7 l → n ≡ gpp 3 → Wanted kind flags l n
+pub data Wanted (c : Context) (l : List Attribute) (n : ℕ) : Type 0 where
+  byName : Absent 32 l → n ≡ 4 → Wanted c l n
+  byFlags : T (conditional c n) → Wanted c l n
+  byProtocol : T (asksPdpType c) → Present 7 l → n ≡ gpp 3 → Wanted c l n
 
 -- "Rules 1 to 4 stand at the attribute's place, 5 to 7 at the area's length": the breaches, one case for each rule; e is the entry
-pub data Breach (kind flags length : ℕ) (l : List Attribute) (e : ℕ) : Type 0 where
-  shape1 : (a : Attribute) → Among a l → T (misses a) → e ≡ entry (a .place) 1 (a .number) → Breach kind flags length l e
-  value2 : (a : Attribute) → Among a l → T (offends kind a) → e ≡ entry (a .place) 2 (a .number) → Breach kind flags length l e
-  again3 : (a : Attribute) (earlier : List Attribute) → After l a earlier → T (onceOnly (a .number)) → Present (a .number) earlier → e ≡ entry (a .place) 3 (a .number) → Breach kind flags length l e
-  here4 : (a : Attribute) → Among a l → T (barred kind flags (a .number)) → e ≡ entry (a .place) 4 (a .number) → Breach kind flags length l e
-  both5 : kind ≡ 1 → Present 2 l → Present 3 l → e ≡ entry length 5 3 → Breach kind flags length l e
-  lacks6 : (n : ℕ) → T (mandatory kind n) → Absent n l → e ≡ entry length 6 n → Breach kind flags length l e
-  wants7 : (n : ℕ) → Wanted kind flags l n → Absent n l → e ≡ entry length 7 n → Breach kind flags length l e
+pub data Breach (c : Context) (size : ℕ) (l : List Attribute) (e : ℕ) : Type 0 where
+  shape1 : (a : Attribute) → Among a l → T (misses a) → e ≡ entry (a .place) 1 (a .number) → Breach c size l e
+  value2 : (a : Attribute) → Among a l → T (offends c a) → e ≡ entry (a .place) 2 (a .number) → Breach c size l e
+  again3 : (a : Attribute) (earlier : List Attribute) → After l a earlier → T (onceOnly (a .number))
+      → Present (a .number) earlier → e ≡ entry (a .place) 3 (a .number) → Breach c size l e
+  here4 : (a : Attribute) → Among a l → T (barred c (a .number)) → e ≡ entry (a .place) 4 (a .number) → Breach c size l e
+  both5 : c .kind ≡ 1 → Present 2 l → Present 3 l → e ≡ entry size 5 3 → Breach c size l e
+  lacks6 : (n : ℕ) → T (mandatory c n) → Absent n l → e ≡ entry size 6 n → Breach c size l e
+  wants7 : (n : ℕ) → Wanted c l n → Absent n l → e ≡ entry size 7 n → Breach c size l e
 
 -- ---- The list
 
@@ -94,64 +100,3 @@ RisingFrom b (x ∷ l) = (b ≤ x) × RisingFrom (suc x) l
 pub record Lists (l : List ℕ) (P : ℕ → Type 0) : Type 0 where
   pub rising : RisingFrom 0 l
   pub exact : (e : ℕ) → Among e l ↔ P e
-
--- ---- The list, computed
-
--- an entry that may stand in the list, with its test
-pub record Candidate : Type 0 where
-  pub key : ℕ
-  pub stands : Bool
-
--- x before l, if the test passes
-abbrev pub put : Bool → ℕ → List ℕ → List ℕ
-put true x l = x ∷ l
-put false x l = l
-
--- those whose test passes
-unfoldable pub chosen : List Candidate → List ℕ
-chosen [] = []
-chosen (c ∷ l) = put (c .stands) (c .key) (chosen l)
-
--- what an attribute breaks, by the numbers seen before it: rules 1 to 4
-unfoldable pub atAttribute : (kind flags : ℕ) (seen : List ℕ) → Attribute → List Candidate
-atAttribute kind flags seen a =
-    record { key = entry (a .place) 1 (a .number); stands = misses a }
-    ∷ record { key = entry (a .place) 2 (a .number); stands = offends kind a }
-    ∷ record { key = entry (a .place) 3 (a .number); stands = onceOnly (a .number) && isIn (a .number) seen }
-    ∷ record { key = entry (a .place) 4 (a .number); stands = barred kind flags (a .number) }
-    ∷ []
-
--- what the attributes break, from the left
-unfoldable pub along : (kind flags : ℕ) (seen : List ℕ) → List Attribute → List Candidate
-along kind flags seen [] = []
-along kind flags seen (a ∷ l) = atAttribute kind flags seen a ++ along kind flags (seen ++ a .number ∷ []) l
-
--- rule 6 at the end, for one number
-abbrev pub lacking : (kind length : ℕ) (seen : List ℕ) → ℕ → Candidate
-lacking kind length seen n = record { key = entry length 6 n; stands = mandatory kind n && not (isIn n seen) }
-
--- rule 7 at the end, for one number whose condition is named by flags
-abbrev pub wanting : (kind flags length : ℕ) (seen : List ℕ) → ℕ → Candidate
-wanting kind flags length seen n =
-    record { key = entry length 7 n; stands = conditional kind flags n && not (isIn n seen) }
-
--- what the end breaks, by all the numbers seen: rules 5 to 7
-unfoldable pub atEnd : (kind flags length : ℕ) (seen : List ℕ) → List Candidate
-atEnd kind flags length seen =
-    record { key = entry length 5 3; stands = eqb kind 1 && (isIn 2 seen && isIn 3 seen) }
-    ∷ map (lacking kind length seen) (1 ∷ 8 ∷ 30 ∷ 40 ∷ 44 ∷ [])
-    ++ wanting kind flags length seen 2
-    ∷ wanting kind flags length seen 3
-    ∷ record { key = entry length 7 4; stands = not (isIn 32 seen) && not (isIn 4 seen) }
-    ∷ wanting kind flags length seen 25
-    ∷ record { key = entry length 7 (gpp 3); stands = asksPdpType kind && (isIn 7 seen && not (isIn (gpp 3) seen)) }
-    ∷ wanting kind flags length seen 60
-    ∷ []
-
--- the numbers that attributes carry
-abbrev pub numbersOf : List Attribute → List ℕ
-numbersOf = map (λ a. a .number)
-
--- the list of the breaches of an area's attributes
-unfoldable pub breaches : (kind flags length : ℕ) → List Attribute → List ℕ
-breaches kind flags length l = chosen (along kind flags [] l ++ atEnd kind flags length (numbersOf l))

@@ -7,5 +7,7 @@ pub mod Shapes
 pub mod Sheet
 pub mod Presence
 pub mod Breaches
+pub mod Codes
+pub mod Listing
 pub mod Answers
 pub mod Seen

@@ -3,6 +3,7 @@ use Prim.Native.Nat.{ℕ}
 use mathlib.Core.List.{List, [], _∷_}
 use mathlib.Core.Path.{_≡_}
 use lib.ListN.{length}
+use Rattle.meaning.specs.Jobs.{comes}
 use Rattle.meaning.specs.Framing.{walk, attributes}
 use Rattle.meaning.specs.Refusals.{none, refusal, areaRefusal}
 use Rattle.meaning.specs.Sheet.{sheetOf}
@@ -54,6 +55,7 @@ cases =
 -- and a refusal is the first that applies.
 abbrev pub Meant : Job → (kind flags : ℕ) (area : List ℕ) → Answer (List ℕ) → Type 0
 Meant read kind flags area (given s) = (areaRefusal kind flags area ≡ none) × (s ≡ sheetOf kind flags area)
-Meant check kind flags area (given l) = (areaRefusal kind flags area ≡ none) × Lists l (Breach kind flags (length area) (attributes (walk area)))
+Meant check kind flags area (given l) =
+    (areaRefusal kind flags area ≡ none) × Lists l (Breach (comes kind flags) (length area) (attributes (walk area)))
 Meant read kind flags area (refused n s) = areaRefusal kind flags area ≡ refusal n s
 Meant check kind flags area (refused n s) = areaRefusal kind flags area ≡ refusal n s

@@ -6,6 +6,7 @@ use lib.Dec.{eqb, leb}
 use lib.ListN.{length, take, drop, getD}
 use Rattle.meaning.specs.Octets.{isIn, between, all, same, isDigit, numberOf, values}
 use Rattle.meaning.specs.Versions.{Version, isHexIn}
+use Rattle.meaning.specs.Jobs.{Context}
 use Rattle.meaning.specs.Framing.{gpp, isPlain}
 
 -- "Form 2, four octets", "Form 3", so many digits, "16 hexadecimal digits", a QoS text, "one hexadecimal digit", "any one octet", "one decimal
@@ -76,13 +77,13 @@ abbrev pub statusOf : (kind : ℕ) → ℕ
 statusOf kind = getD (1 ∷ 2 ∷ 7 ∷ 8 ∷ 3 ∷ []) (kind - 2) 0
 
 -- "Allowed values, where the shape holds"
-unfoldable pub allowed : (kind number : ℕ) → List ℕ → Bool
-allowed kind n v =
+unfoldable pub allowed : Context → (number : ℕ) → List ℕ → Bool
+allowed c n v =
     cond (eqb n 6) (eqb (numberOf v) 2)
     (cond (eqb n 7) (eqb (numberOf v) 7)
     (cond (eqb n 45) (isIn (numberOf v) (1 ∷ 2 ∷ []))
     (cond (eqb n 49) (between 1 18 (numberOf v))
-    (cond (eqb n 40) (eqb kind 1 || eqb (numberOf v) (statusOf kind))
+    (cond (eqb n 40) (eqb (c .kind) 1 || eqb (numberOf v) (statusOf (c .kind)))
     (cond (eqb n (gpp 3)) (eqb (numberOf v) 0)
     (cond (eqb n (gpp 11)) (eqb (numberOf v) 255)
     (cond (eqb n (gpp 12)) (between 0 2 (numberOf (values v))) true)))))))

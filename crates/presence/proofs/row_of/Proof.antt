@@ -1,73 +1,31 @@
--- The computed tests, one for each row: every entry is the code of its kind and number. Assumes nothing.
+-- `presence::row_of` meets its contract, by one computed test over the table. Assumes nothing.
 use borrow.Author.Needs.{needs}
 use native.Mathlib.Omega.{arith}
-use Rattle.meaning.specs.Jobs.{isKind}
-use Rattle.meaning.specs.Presence.{mandatory, code}
-use Rattle.presence.specs.Rows.{rowOf}
-use Rattle.presence.proofs.Rows.{no-kind}
+use Rattle.meaning.specs.Presence.{mandatory}
+use Rattle.meaning.specs.Codes.{code}
+use Rattle.presence.specs.Rows.{rowBy, rowOf, agrees, byKind}
+use Rattle.presence.proofs.Rows.{row-of-kind, no-kind}
 use Rattle.presence.proofs.row_of.Statement.{statement}
 use Rattle.presence.proofs.row_of.Tie as tie
 
-array-copy-out-result : tie.Need-array-copy-out-result
-array-copy-out-result c = search needs
+cast-row-in : tie.Need-cast-row-in
+cast-row-in c = search needs
 
-array-copy-out-result-2 : tie.Need-array-copy-out-result-2
-array-copy-out-result-2 c = search needs
-
-array-copy-out-result-3 : tie.Need-array-copy-out-result-3
-array-copy-out-result-3 c = search needs
-
-array-copy-out-result-4 : tie.Need-array-copy-out-result-4
-array-copy-out-result-4 c = search needs
-
-array-copy-out-result-5 : tie.Need-array-copy-out-result-5
-array-copy-out-result-5 c = search needs
-
-array-copy-out-result-6 : tie.Need-array-copy-out-result-6
-array-copy-out-result-6 c = search needs
+-- The test: all 1,536 entries of the const agree with the presence lines, computed.
+table-agrees : tie.Need-row-in-requires
+unfolding agrees rowBy byKind code mandatory
+table-agrees c κs = (tt, omega arith)
 
 returns : tie.Need-returns
-unfolding rowOf isKind code mandatory
-returns c = rw (c .before .match .keys1)
+returns c = row-of-kind _ _ (omega arith) (omega arith) (c .row-in .ensures)
 
 returns-2 : tie.Need-returns-2
-unfolding rowOf isKind code mandatory
-returns-2 c = rw (c .before .match .keys2)
+unfolding rowOf
+returns-2 c = rw (no-kind (c .before .args .kind) (λ l m. omega (arith, l, m)))
 
 returns-3 : tie.Need-returns-3
-unfolding rowOf isKind code mandatory
-returns-3 c = rw (c .before .match .keys3)
-
-returns-4 : tie.Need-returns-4
-unfolding rowOf isKind code mandatory
-returns-4 c = rw (c .before .match .keys4)
-
-returns-5 : tie.Need-returns-5
-unfolding rowOf isKind code mandatory
-returns-5 c = rw (c .before .match .keys5)
-
-returns-6 : tie.Need-returns-6
-unfolding rowOf isKind code mandatory
-returns-6 c = rw (c .before .match .keys6)
-
-returns-7 : tie.Need-returns-7
 unfolding rowOf
-returns-7 c = rw (no-kind (c .before .args .kind) (λ l m. omega (arith, l, m, c .match .rest)))
+returns-3 c = rw (no-kind (c .before .before .args .kind) (λ l m. omega (arith, l, m)))
 
 pub row-of-spec : {M : Type 1} → statement M
-row-of-spec =
-    tie.close
-    (tie.spec
-    array-copy-out-result
-    array-copy-out-result-2
-    array-copy-out-result-3
-    array-copy-out-result-4
-    array-copy-out-result-5
-    array-copy-out-result-6
-    returns
-    returns-2
-    returns-3
-    returns-4
-    returns-5
-    returns-6
-    returns-7)
+row-of-spec = tie.close (tie.spec cast-row-in table-agrees returns returns-2 returns-3)
