@@ -13,10 +13,10 @@ use Rattle.meaning.specs.Versions.{current}
 use Rattle.meaning.specs.Jobs.{Context}
 use Rattle.meaning.specs.Framing.{walk, attributes}
 use Rattle.meaning.specs.Refusals.{Refusal, none, refusal, first, tooShort, areaRefusal, areaOrder}
-use Rattle.meaning.specs.Sheet.{sheetOf, Readable, kindIn, flagsIn, areaIn, judged}
+use Rattle.meaning.specs.Sheet.{sheetAs, sheetOf, Readable, versionIn, kindIn, flagsIn, areaIn, judged}
 use Rattle.meaning.specs.Breaches.{Breach, Lists}
 use Rattle.meaning.specs.Listing.{listOf}
-use Rattle.meaning.specs.Answers.{Answer, given, refused, unless, over, after, readAnswer, checkAnswer, Written, writeAnswer, Promise}
+use Rattle.meaning.specs.Answers.{Answer, given, refused, unless, over, after, readAnswer, checkAnswer, Written, writeAnswer, Promise, LaidOver}
 use Rattle.meaning.proofs.Sheets.{first-none, when-is-none, sheet-goes-back, accepted-sheet}
 use Rattle.meaning.proofs.Rising.{one-list}
 use Rattle.meaning.proofs.Placed.{list-lists}
@@ -46,51 +46,40 @@ enough n needed room e = ltb-false room needed (when-is-none (ltb room needed) n
 
 -- ---- Read and check
 
-module _ (kind flags : ℕ) (area : List ℕ) (room : ℕ) where
-  -- Given room, the answer is the sheet unless one of 1 to 8 applies.
-  pub read-roomy : length (sheetOf kind flags area) ≤ room → readAnswer kind flags area room ≡ unless (areaRefusal kind flags area) (sheetOf kind flags area)
-  unfolding readAnswer areaOrder
-  read-roomy h = rw (roomy (areaRefusal kind flags area) 9 (length (sheetOf kind flags area)) room h)
+-- nothing of 1 to 8 applies, there is room, and s is the sheet
+abbrev pub SheetGiven : (kind flags : ℕ) (area : List ℕ) (room : ℕ) → List ℕ → Type 0
+SheetGiven kind flags area room s =
+    (areaRefusal kind flags area ≡ none) × (length (sheetOf kind flags area) ≤ room) × (s ≡ sheetOf kind flags area)
 
-  -- An area is read exactly when nothing of 1 to 8 applies and there is room, and then the answer is its sheet.
-  pub read-exactly : (s : List ℕ) → readAnswer kind flags area room ≡ given s ↔ ((areaRefusal kind flags area ≡ none) × (length (sheetOf kind flags area) ≤ room) × (s ≡ sheetOf kind flags area))
+-- An area is read exactly when nothing of 1 to 8 applies and there is room, and then the answer is its sheet.
+module _ (kind flags : ℕ) (area : List ℕ) (room : ℕ) where
+  pub read-exactly : (s : List ℕ) → readAnswer kind flags area room ≡ given s ↔ SheetGiven kind flags area room s
   unfolding readAnswer areaOrder
   read-exactly s = (there, back)
     where
-      needed : ℕ
-      needed = length (sheetOf kind flags area)
+      sheet : List ℕ
+      sheet = sheetOf kind flags area
 
-      there : unless (first (areaRefusal kind flags area) (tooShort 9 (length (sheetOf kind flags area)) room)) (sheetOf kind flags area) ≡ given s → (areaRefusal kind flags area ≡ none) × (length (sheetOf kind flags area) ≤ room) × (s ≡ sheetOf kind flags area)
+      order : Refusal
+      order = first (areaRefusal kind flags area) (tooShort 9 (length (sheetOf kind flags area)) room)
+
+      there : unless order (sheetOf kind flags area) ≡ given s → SheetGiven kind flags area room s
       there e =
-          let u = unless-given (first (areaRefusal kind flags area) (tooShort 9 needed room)) (sheetOf kind flags area) s e in
-          let f = first-none (areaRefusal kind flags area) (tooShort 9 needed room) (u .0) in
-          (f .0, enough 9 needed room (f .1), sym (u .1))
+          let u = unless-given order sheet s e in
+          let f = first-none (areaRefusal kind flags area) (tooShort 9 (length sheet) room) (u .0) in
+          (f .0, enough 9 (length sheet) room (f .1), sym (u .1))
 
-      back : (areaRefusal kind flags area ≡ none) × (length (sheetOf kind flags area) ≤ room) × (s ≡ sheetOf kind flags area) → unless (first (areaRefusal kind flags area) (tooShort 9 (length (sheetOf kind flags area)) room)) (sheetOf kind flags area) ≡ given s
-      back p = rw (roomy (areaRefusal kind flags area) 9 needed room (p .1), p .0, p .2)
+      back : SheetGiven kind flags area room s → unless order (sheetOf kind flags area) ≡ given s
+      back p = rw (roomy (areaRefusal kind flags area) 9 (length sheet) room (p .1), p .0, p .2)
 
-module _ (c : Context) (area : List ℕ) (room : ℕ) where
-  pub check-roomy : length (listOf c area) ≤ room
-      → checkAnswer c area room ≡ unless (areaRefusal (c .kind) (c .flags) area) (listOf c area)
-  unfolding checkAnswer areaOrder
-  check-roomy h = rw (roomy (areaRefusal (c .kind) (c .flags) area) 10 (length (listOf c area)) room h)
-
-  -- The list of a check is the list of the breaches, and no other list is.
-  pub check-lists : (l : List ℕ)
-      → Octets area
-      → checkAnswer c area room ≡ given l
-      → Lists l (Breach c (length area) (attributes (walk area)))
-  unfolding checkAnswer areaOrder
-  check-lists l o e =
-      let order = first (areaRefusal (c .kind) (c .flags) area) (tooShort 10 (length (listOf c area)) room) in
-      rw (unless-given order (listOf c area) l e .1) at (list-lists c area o)
-
-  pub check-only : (l m : List ℕ)
-      → Octets area
-      → checkAnswer c area room ≡ given l
-      → Lists m (Breach c (length area) (attributes (walk area)))
-      → m ≡ l
-  check-only l m o e p = one-list (Breach c (length area) (attributes (walk area))) m l p (check-lists l o e)
+-- The answer of a check is the list of exactly the breaches, given room for it.
+pub check-given :
+    (c : Context) (area : List ℕ) (room : ℕ) (l : List ℕ) → Readable (c .kind) (c .flags) area
+    → Lists l (Breach c (length area) (attributes (walk area))) → length l ≤ room → checkAnswer c area room ≡ given l
+unfolding checkAnswer areaOrder
+check-given c area room l r lists h =
+    let is : listOf c area ≡ l = one-list _ (listOf c area) l (list-lists c area (r .octets)) lists in
+    rw (is, roomy (areaRefusal (c .kind) (c .flags) area) 10 (length l) room h, r .accepted)
 
 -- ---- Write
 
@@ -104,7 +93,7 @@ written-back kind flags area room r h =
 -- what is written reads as the sheet
 pub record ReadsAs (sheet : List ℕ) (w : Written) : Type 0 where
   pub readable : Readable (w .kind) (w .flags) (w .area)
-  pub is : sheetOf (w .kind) (w .flags) (w .area) ≡ sheet
+  pub is : sheetAs (versionIn sheet) (w .kind) (w .flags) (w .area) ≡ sheet
 
 -- What is written is a readable area, kind and flags whose sheet is the sheet that was written.
 pub written-reads : (sheet : List ℕ) (room : ℕ) (w : Written) → Octets sheet → writeAnswer sheet room ≡ given w → ReadsAs sheet w
@@ -118,13 +107,8 @@ written-reads sheet room w o e =
 
 -- ---- The lent buffer
 
--- What is written stands at the buffer's start, the rest is as it was, and the buffer stays as long as it was.
-pub record Laid (s d out : List ℕ) : Type 0 where
-  pub start : take (length s) out ≡ s
-  pub rest : drop (length s) out ≡ drop (length s) d
-  pub kept : length out ≡ length d
-
-pub over-laid : (s d : List ℕ) → length s ≤ length d → Laid s d (over s d)
+-- what is laid over a buffer with room for it
+pub over-laid : (s d : List ℕ) → length s ≤ length d → LaidOver s d (over s d)
 unfolding over
 over-laid s d h =
     record {
@@ -134,10 +118,15 @@ over-laid s d h =
     }
 
 -- Success changes what is written; a refusal changes nothing.
-pub after-given : (s d : List ℕ) → length s ≤ length d → Laid s d (after (given s) d)
+pub after-given : (s d : List ℕ) → length s ≤ length d → LaidOver s d (after (given s) d)
 unfolding after
 after-given s d h = over-laid s d h
 
 pub after-refused : (n k : ℕ) (d : List ℕ) → after (refused n k) d ≡ d
 unfolding after
 after-refused n k d = refl
+
+-- What is given is read off the buffer's start.
+pub after-start : (s d : List ℕ) → take (length s) (after (given s) d) ≡ s
+unfolding after over
+after-start s d = take-at s (drop (length s) d) (length s) refl

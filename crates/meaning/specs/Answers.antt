@@ -2,7 +2,7 @@
 use mathlib.Core.Path.{_≡_}
 use Prim.Native.Nat.{ℕ}
 use mathlib.Core.List.{List, _++_}
-use lib.ListN.{length, drop}
+use lib.ListN.{length, take, drop}
 use Rattle.meaning.specs.Jobs.{Context}
 use Rattle.meaning.specs.Refusals.{Refusal, none, refusal, first, tooShort, areaOrder}
 use Rattle.meaning.specs.Sheet.{sheetOf, kindIn, flagsIn, areaIn, judged}
@@ -21,6 +21,12 @@ unless (refusal n s) a = refused n s
 -- "Success changes only the octets or entries written, from the buffer's start": s over the start of the buffer d
 unfoldable pub over : (s d : List ℕ) → List ℕ
 over s d = s ++ drop (length s) d
+
+-- "Success changes only the octets or entries written": s stands at the start of the buffer d, and the rest is as it was
+pub record LaidOver (s d out : List ℕ) : Type 0 where
+  pub start : take (length s) out ≡ s
+  pub rest : drop (length s) out ≡ drop (length s) d
+  pub kept : length out ≡ length d
 
 -- the buffer after an answer; "A refusal leaves each buffer unchanged"
 unfoldable pub after : Answer (List ℕ) → (buffer : List ℕ) → List ℕ
