@@ -11,7 +11,7 @@ use borrow.Author.Tests.{ltb-true}
 use lib.ListN.{length, length-append}
 use Rattle.meaning.specs.Octets.{Octets, octetsOf}
 use Rattle.meaning.specs.Jobs.{isKind, areFlags}
-use Rattle.meaning.specs.Versions.{Version, one}
+use Rattle.meaning.specs.Versions.{Version}
 use Rattle.meaning.specs.Framing.{isPlain, Attribute, attributeOctets, areaOf, Carried, All, walk, attributes}
 use Rattle.meaning.specs.Sheet.{typeOf, subOf, form, count, item, itemsOf, sheetHead, sheetWith, sheetAs, Readable}
 use Rattle.meaning.specs.Breaches.{Among}

@@ -10,7 +10,7 @@ use borrow.Author.Tests.{lt-ltb, le-ltb, le-leb, eq-eqb, ne-eqb, ltb-false, leb-
 use lib.ListN.{length, take, drop, getD, length-append, length-drop}
 use lib.Seq.{length-take-le, take-take, take-at, take-append-le}
 use Rattle.meaning.specs.Octets.{Octets, numberOf, octetsOf}
-use Rattle.meaning.specs.Framing.{gpp, isPlain, headLength, vendor3gpp, attributeOctets, carries, Found, attribute, refused, nothing, oneSub, vendorFound, found}
+use Rattle.meaning.specs.Framing.{gpp, isPlain, headLength, attributeOctets, carries, Found, attribute, refused, nothing, oneSub, vendorFound, found}
 use Rattle.meaning.proofs.Tests.{parts, is-true}
 use Rattle.meaning.proofs.Octets.{octet-at}
 use Rattle.meaning.proofs.Numbers.{number-one}

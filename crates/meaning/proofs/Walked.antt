@@ -11,7 +11,7 @@ use lib.ListN.{length, take, drop, length-append, take-append-drop}
 use lib.Seq.{drop-at, length-take-le}
 use Rattle.meaning.specs.Octets.{Octets}
 use Rattle.meaning.specs.Framing.{headLength, Attribute, attributeOctets, areaOf, carries, Carried, All, WellFramed, Found, attribute, refused, nothing, found, Walk, end, broken, next, onward, from, walkAt, walk, attributes}
-use Rattle.meaning.specs.Refusals.{Refusal, none, refusal, fault}
+use Rattle.meaning.specs.Refusals.{none, refusal, fault}
 use lib.Dec.{T}
 use Rattle.meaning.proofs.Walks.{from-attribute}
 use Rattle.meaning.proofs.Octets.{octets-take, octets-drop}
