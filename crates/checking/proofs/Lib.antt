@@ -6,5 +6,4 @@ pub mod Walking
 pub mod Passes
 pub mod Ends
 pub mod Whole
-pub mod Exactly
 pub mod Bounds

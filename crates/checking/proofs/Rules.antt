@@ -8,7 +8,9 @@ use lib.Dec.{eqb, leb}
 use lib.ListN.{getD}
 use borrow.Author.Tests.{lt-ltb, le-ltb, le-leb, lt-leb, eqb-true, ne-eqb}
 use Rattle.meaning.specs.Octets.{between}
-use Rattle.meaning.specs.Presence.{codeBars, notPermitted}
+use Rattle.meaning.specs.Jobs.{Context}
+use Rattle.meaning.specs.Presence.{notPermitted}
+use Rattle.meaning.specs.Codes.{codeBars}
 use Rattle.meaning.specs.Breaches.{entry, onceOnly, barred, isListed3gpp}
 use Rattle.meaning.proofs.Presence.{code-bars}
 use Rattle.checking.specs.Table.{Known, Row}
@@ -33,10 +35,15 @@ module _ (n place : ℕ) (once : Bool) (o : once ≡ onceOnly n) where
 plain-unlisted : (n : ℕ) → n < 256 → isListed3gpp n ≡ false
 plain-unlisted n h = rw (lt-leb 257 n (omega arith), ne-eqb n 274 (λ e. omega arith))
 
-pub barred-plain : (kind flags n : ℕ) (codes : List ℕ) (bars : Bool) → Known kind → Row kind codes → n < 256 → bars ≡ codeBars (getD codes n 0) flags → bars ≡ barred kind flags n
+pub barred-plain : (c : Context) (n : ℕ) (codes : List ℕ) (bars : Bool)
+    → Known c
+    → Row c codes
+    → n < 256
+    → bars ≡ codeBars (getD codes n 0) (c .flags)
+    → bars ≡ barred c n
 unfolding barred
-barred-plain kind flags n codes bars k r h e =
-    e ∙ ap (λ (c : ℕ). codeBars c flags) (r .says n h) ∙ code-bars kind n (known-kind kind k) h flags
+barred-plain c n codes bars k r h e =
+    e ∙ ap (λ (code : ℕ). codeBars code (c .flags)) (r .says n h) ∙ code-bars c n (known-kind c k) h
     ∙ simp (ne-eqb n 267 (λ p. omega arith), plain-unlisted n h, and-false)
 
 -- a code below 2 bars nothing
@@ -46,30 +53,30 @@ low-code c flags h =
     simp (ne-eqb c 2 (λ e. omega arith), ne-eqb c 3 (λ e. omega arith), ne-eqb c 4 (λ e. omega arith))
 
 -- a 3GPP number is in no plain line
-gpp-permitted : (kind flags n : ℕ) → 256 ≤ n → notPermitted kind flags n ≡ false
+gpp-permitted : (c : Context) (n : ℕ) → 256 ≤ n → notPermitted c n ≡ false
 unfolding notPermitted
-gpp-permitted kind flags n h =
+gpp-permitted c n h =
     let no : (k : ℕ) → k < 256 → eqb n k ≡ false = λ k g. ne-eqb n k (λ e. omega arith) in
     simp (no 2 (omega arith), no 3 (omega arith), no 18 (omega arith), no 24 (omega arith), no 25 (omega arith), and-false)
 
 -- 3GPP 11
-pub barred-11 : (kind flags n : ℕ) → n ≡ 267 → not (eqb kind 3) ≡ barred kind flags n
+pub barred-11 : (c : Context) (n : ℕ) → n ≡ 267 → not (eqb (c .kind) 3) ≡ barred c n
 unfolding barred
-barred-11 kind flags n e = rw (e, gpp-permitted kind flags 267 (omega arith)) (go (eqb kind 3) refl)
+barred-11 c n e = rw (e, gpp-permitted c 267 (omega arith)) (go (eqb (c .kind) 3) refl)
   where
-    go : (b : Bool) → eqb kind 3 ≡ b → not b ≡ not b || ((between 4 5 kind && true) || false)
-    go true s = rw (eqb-true kind 3 s)
+    go : (b : Bool) → eqb (c .kind) 3 ≡ b → not b ≡ not b || ((between 4 5 (c .kind) && true) || false)
+    go true s = rw (eqb-true (c .kind) 3 s)
     go false s = refl
 
 -- another 3GPP number, in kinds 1 to 3 and in the others
-module _ (kind flags n : ℕ) (high : 256 ≤ n) (other : n ≡ 267 → ⊥) where
-  pub barred-early : kind < 4 → false ≡ barred kind flags n
+module _ (c : Context) (n : ℕ) (high : 256 ≤ n) (other : n ≡ 267 → ⊥) where
+  pub barred-early : c .kind < 4 → false ≡ barred c n
   unfolding barred
-  barred-early k = simp (ne-eqb n 267 other, lt-leb 4 kind k, gpp-permitted kind flags n high)
+  barred-early k = simp (ne-eqb n 267 other, lt-leb 4 (c .kind) k, gpp-permitted c n high)
 
-  pub barred-late : (listed : Bool) → 4 ≤ kind → listed ≡ isListed3gpp n → leb kind 5 && listed ≡ barred kind flags n
+  pub barred-late : (listed : Bool) → 4 ≤ c .kind → listed ≡ isListed3gpp n → leb (c .kind) 5 && listed ≡ barred c n
   unfolding barred
-  barred-late listed k e = simp (e, ne-eqb n 267 other, le-leb 4 kind k, gpp-permitted kind flags n high, or-false)
+  barred-late listed k e = simp (e, ne-eqb n 267 other, le-leb 4 (c .kind) k, gpp-permitted c n high, or-false)
 
 -- ---- The entry
 

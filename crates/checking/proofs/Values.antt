@@ -8,6 +8,7 @@ use lib.Dec.{eqb, leb}
 use lib.ListN.{length, getD}
 use borrow.Author.Tests.{le-leb, ne-eqb, eqb-true}
 use Rattle.meaning.specs.Octets.{between, all, isDigit, numberOf, digitValue, values}
+use Rattle.meaning.specs.Jobs.{Context}
 use Rattle.meaning.specs.Shapes.{plainShape, gppShape, shapeOf, meets, statusOf, allowed}
 use Rattle.meaning.proofs.Tests.{parts, is-true, passes}
 use Rattle.shape.proofs.Codes.{Past}
@@ -22,13 +23,14 @@ whole-number v x e h = e ∙ ap numberOf (part-rest v 0 4 (omega arith))
 digit-long : (n : ℕ) (v : List ℕ) → meets (shapeOf n) v ≡ true → n ≡ 268 → length v ≡ 1
 unfolding shapeOf gppShape meets
 digit-long n v met p =
-    eqb-true (length v) 1 (is-true (eqb (length v) 1) (parts (eqb (length v) 1) (all isDigit v) (passes (eqb (length v) 1 && all isDigit v) (rw p at met)) .0))
+    let both = passes (eqb (length v) 1 && all isDigit v) (rw p at met) in
+    eqb-true (length v) 1 (is-true (eqb (length v) 1) (parts (eqb (length v) 1) (all isDigit v) both .0))
 
 pub digit-there : (n : ℕ) (v : List ℕ) → meets (shapeOf n) v ≡ true → n ≡ 268 → 0 < length v
 digit-there n v met p = omega (arith, digit-long n v met p)
 
 -- The value v of the carried number n meets its shape; x is the number at its start.
-module _ (kind n : ℕ) (v : List ℕ) (met : meets (shapeOf n) v ≡ true) where
+module _ (c : Context) (n : ℕ) (v : List ℕ) (met : meets (shapeOf n) v ≡ true) where
   module _ (x : ℕ) (read : x ≡ numberOf (partOf v 0 4)) where
     four : eqb (length v) 4 ≡ true → x ≡ numberOf v
     four e = whole-number v x read (omega (arith, eqb-true (length v) 4 e))
@@ -36,35 +38,35 @@ module _ (kind n : ℕ) (v : List ℕ) (met : meets (shapeOf n) v ≡ true) wher
     one : eqb (length v) 1 ≡ true → x ≡ numberOf v
     one e = whole-number v x read (omega (arith, eqb-true (length v) 1 e))
 
-    pub allowed-6 : n ≡ 6 → eqb x 2 ≡ allowed kind n v
+    pub allowed-6 : n ≡ 6 → eqb x 2 ≡ allowed c n v
     unfolding allowed shapeOf plainShape meets
     allowed-6 p = rw (p, four (rw p at met))
 
-    pub allowed-7 : n ≡ 7 → eqb x 7 ≡ allowed kind n v
+    pub allowed-7 : n ≡ 7 → eqb x 7 ≡ allowed c n v
     unfolding allowed shapeOf plainShape meets
     allowed-7 p = rw (p, four (rw p at met))
 
-    pub allowed-45 : n ≡ 45 → eqb x 1 || eqb x 2 ≡ allowed kind n v
+    pub allowed-45 : n ≡ 45 → eqb x 1 || eqb x 2 ≡ allowed c n v
     unfolding allowed shapeOf plainShape meets
     allowed-45 p = rw (p, four (rw p at met)) (simp or-false)
 
-    pub allowed-49 : n ≡ 49 → between 1 18 x ≡ allowed kind n v
+    pub allowed-49 : n ≡ 49 → between 1 18 x ≡ allowed c n v
     unfolding allowed shapeOf plainShape meets
     allowed-49 p = rw (p, four (rw p at met))
 
-    pub allowed-40 : n ≡ 40 → eqb kind 1 || eqb x (statusOf kind) ≡ allowed kind n v
+    pub allowed-40 : n ≡ 40 → eqb (c .kind) 1 || eqb x (statusOf (c .kind)) ≡ allowed c n v
     unfolding allowed shapeOf plainShape meets
     allowed-40 p = rw (p, four (rw p at met))
 
-    pub allowed-259 : n ≡ 259 → eqb x 0 ≡ allowed kind n v
+    pub allowed-259 : n ≡ 259 → eqb x 0 ≡ allowed c n v
     unfolding allowed shapeOf gppShape meets
     allowed-259 p = rw (p, four (rw p at met))
 
-    pub allowed-267 : n ≡ 267 → eqb x 255 ≡ allowed kind n v
+    pub allowed-267 : n ≡ 267 → eqb x 255 ≡ allowed c n v
     unfolding allowed shapeOf gppShape meets
     allowed-267 p = rw (p, one (rw p at met))
 
-  pub allowed-268 : (x : ℕ) → n ≡ 268 → x ≡ digitValue (getD v 0 0) → leb x 2 ≡ allowed kind n v
+  pub allowed-268 : (x : ℕ) → n ≡ 268 → x ≡ digitValue (getD v 0 0) → leb x 2 ≡ allowed c n v
   unfolding allowed values numberOf
   allowed-268 x p e = rw (p, e) (go v (digit-long n v met p))
     where
@@ -76,17 +78,27 @@ module _ (kind n : ℕ) (v : List ℕ) (met : meets (shapeOf n) v ≡ true) wher
       go (d ∷ y ∷ v) h = absurd (omega arith)
 
 -- any other number
-pub allowed-other : (kind n : ℕ) (v : List ℕ) → Past (Unit {0}) n (6 ∷ 7 ∷ 45 ∷ 49 ∷ 40 ∷ 259 ∷ 267 ∷ 268 ∷ []) → true ≡ allowed kind n v
+pub allowed-other : (c : Context) (n : ℕ) (v : List ℕ)
+    → Past (Unit {0}) n (6 ∷ 7 ∷ 45 ∷ 49 ∷ 40 ∷ 259 ∷ 267 ∷ 268 ∷ [])
+    → true ≡ allowed c n v
 unfolding allowed
-allowed-other kind n v p =
-    simp
-    (ne-eqb n 6 (p .0 .0 .0 .0 .0 .0 .0 .1), ne-eqb n 7 (p .0 .0 .0 .0 .0 .0 .1), ne-eqb n 45 (p .0 .0 .0 .0 .0 .1), ne-eqb n 49 (p .0 .0 .0 .0 .1), ne-eqb n 40 (p .0 .0 .0 .1), ne-eqb n 259 (p .0 .0 .1), ne-eqb n 267 (p .0 .1), ne-eqb n 268 (p .1))
+allowed-other c n v p =
+    simp (
+      ne-eqb n 6 (p .0 .0 .0 .0 .0 .0 .0 .1),
+      ne-eqb n 7 (p .0 .0 .0 .0 .0 .0 .1),
+      ne-eqb n 45 (p .0 .0 .0 .0 .0 .1),
+      ne-eqb n 49 (p .0 .0 .0 .0 .1),
+      ne-eqb n 40 (p .0 .0 .0 .1),
+      ne-eqb n 259 (p .0 .0 .1),
+      ne-eqb n 267 (p .0 .1),
+      ne-eqb n 268 (p .1),
+    )
 
 -- ---- Shape met, value not allowed
 
-module _ (kind n : ℕ) (v : List ℕ) (met : Bool) where
-  pub offends-not : met ≡ false → false ≡ met && not (allowed kind n v)
+module _ (c : Context) (n : ℕ) (v : List ℕ) (met : Bool) where
+  pub offends-not : met ≡ false → false ≡ met && not (allowed c n v)
   offends-not m = rw m
 
-  pub offends-by : (good : Bool) → met ≡ true → good ≡ allowed kind n v → not good ≡ met && not (allowed kind n v)
+  pub offends-by : (good : Bool) → met ≡ true → good ≡ allowed c n v → not good ≡ met && not (allowed c n v)
   offends-by good m e = rw (m, e)

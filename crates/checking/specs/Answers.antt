@@ -1,8 +1,8 @@
 -- What the answers of this crate stand for, in the numbers and values of document 01. Assumes nothing.
 use Prim.Native.Nat.{ℕ}
-use mathlib.Core.Path.{_≡_}
 use mathlib.Core.List.{List}
 use lib.ListN.{length}
+use Rattle.meaning.specs.Jobs.{Context}
 use Rattle.meaning.specs.Answers as meant
 use Rattle.checking.specs.declared.Checking.{Checking}
 use Rattle.checking.specs.declared.Checking.the-variants as is
@@ -12,7 +12,8 @@ abbrev pub checkingOf : meant.Answer (List ℕ) → Checking
 checkingOf (meant.given l) = is.List (length l)
 checkingOf (meant.refused n k) = is.Refused (record { number = n; second = k })
 
--- what checking answers, and what the lent buffer holds then
-pub record Checked (kind flags : ℕ) (area buffer : List ℕ) (said : Checking) (held : List ℕ) : Type 0 where
-  pub says : said ≡ checkingOf (meant.checkAnswer kind flags area (length buffer))
-  pub holds : held ≡ meant.after (meant.checkAnswer kind flags area (length buffer)) buffer
+-- what checking promises of its answer and of the lent buffer
+abbrev pub Checked : Context → (area buffer : List ℕ) (said : Checking) (held : List ℕ) → Type 0
+Checked c area buffer said held =
+    let answer = meant.checkAnswer c area (length buffer) in
+    meant.Promise (checkingOf answer) answer buffer said held

@@ -5,21 +5,43 @@ use area::Refusal;
 use area::Step;
 ghost use mathlib.Core.Path.{_≡_};
 ghost use mathlib.Core.Bool.{true, not, _&&_, _||_};
-ghost use Prim.Native.Nat.{_≤_, _<_};
+ghost use Prim.Native.Nat.{ℕ, _+_, _≤_, _<_};
 ghost use lib.Dec.{eqb};
 ghost use lib.ListN.{length};
-ghost use mathlib.Core.List.{[]};
+ghost use mathlib.Core.List.{[], map};
+ghost use Rattle.meaning.specs.Jobs.{comes};
 ghost use Rattle.meaning.specs.Shapes.{shapeOf, meets, statusOf};
 ghost use Rattle.meaning.specs.Shapes as shapes;
-ghost use Rattle.meaning.specs.Presence.{codeBars, codeDemands, codeWants};
-ghost use Rattle.meaning.specs.Breaches.{entry, onceOnly, asksPdpType, chosen};
+ghost use Rattle.meaning.specs.Codes.{codeBars, codeDemands, codeWants};
+ghost use Rattle.meaning.specs.Breaches.{entry, onceOnly};
 ghost use Rattle.meaning.specs.Breaches as meant;
+ghost use Rattle.meaning.specs.Listing.{chosen, brokenBy, demandable, wantable};
 ghost use Rattle.meaning.specs.Answers.{over};
 ghost use Rattle.area.specs.Answers.{arrivalOf};
 ghost use Rattle.area.specs.declared.Arrival.the-variants.{Fit};
 ghost use Rattle.checking.specs.Table.{Known, Row};
-ghost use Rattle.checking.specs.Lists.{Laid, Put, PutOf, searchEnd, Seen, brokenBy, lacksBy, wantsBy, lackingFirst, lackingThen, lackingIn, wantingFirst, wantingThen, wantingIn, Ready, AlongSays, PassSays};
+ghost use Rattle.checking.specs.Lists.{mostEntries, LaysEntries, LaysOne, searchEnd, viewAt, Notes};
+ghost use Rattle.checking.specs.Lists.{lacksBy, wantedBy, wantsBy, endBy, Ready, AlongSays, PassSays};
 ghost use Rattle.checking.specs.Answers.{Checked};
+
+// 3GPP-IMSI, 3GPP-PDP-Type, 3GPP-Session-Stop-Indicator, 3GPP-Selection-Mode and 3GPP-SGSN-MCC-MNC, as carried numbers.
+const GPP_1: u16 = 257;
+
+const GPP_3: u16 = 259;
+
+const GPP_11: u16 = 267;
+
+const GPP_12: u16 = 268;
+
+const GPP_18: u16 = 274;
+
+// The numbers that rule 6 can ask for, and those that rule 7 can, in the order of their entries; whether it does is said by the table.
+const DEMANDABLE: [u16; 5] = [1, 8, 30, 40, 44];
+
+const WANTABLE: [u16; 6] = [2, 3, 4, 25, GPP_3, 60];
+
+// So many entries have room in the first pass.
+const FEW: usize = 32;
 
 // What checking answers: the number of entries that stand at the list's start, or a refusal.
 pub enum Checking {
@@ -47,21 +69,20 @@ fn lacks(code: u8, seen: bool) -> bool
     (code == 1) & !seen
 }
 
-// Rule 7 by an entry of the table, whether 32 is present and whether the number was seen.
-fn wants(code: u8, flags: u32, named: bool, seen: bool) -> bool
-    ensures { λ r. ⌜ r ≡ codeWants code flags named && not seen ⌝ }
+// Rule 7 by an entry of the table and whether 32 is present.
+fn code_wants(code: u8, flags: u32, named: bool) -> bool
+    ensures { λ r. ⌜ r ≡ codeWants code flags named ⌝ }
 {
-    ((((code == 5) & (flags % 2 == 1))
+    (((code == 5) & (flags % 2 == 1))
         | (((code == 6) & (flags / 2 % 2 == 1)) | ((code == 4) & (flags / 4 % 2 == 1))))
-        | ((code == 7) & !named))
-        & !seen
+        | ((code == 7) & !named)
 }
 
 // "3GPP 1 to 12, 18"
 fn is_listed_3gpp(number: u16) -> bool
     ensures { λ r. ⌜ r ≡ meant.isListed3gpp number ⌝ }
 {
-    ((257 <= number) & (number <= 268)) | (number == 274)
+    ((GPP_1 <= number) & (number <= GPP_12)) | (number == GPP_18)
 }
 
 // Rule 3: "For plain 1 to 4, 6 to 9, 30 to 32, 40 to 49, 60, 61 and for 3GPP 1 to 12, 18".
@@ -84,8 +105,8 @@ fn search_end(number: u16, place: usize) -> usize
 
 // Rule 4: "not permitted here".
 fn barred(codes: &[u8], kind: u32, flags: u32, number: u16) -> bool
-    requires { ⌜ Known kind × Row kind (now codes) ⌝ }
-    ensures { λ r. ⌜ r ≡ meant.barred kind flags number ⌝ }
+    requires { ⌜ Known (comes kind flags) × Row (comes kind flags) (now codes) ⌝ }
+    ensures { λ r. ⌜ r ≡ meant.barred (comes kind flags) number ⌝ }
 {
     if number < 256 {
         let code = codes[number as usize];
@@ -95,7 +116,7 @@ fn barred(codes: &[u8], kind: u32, flags: u32, number: u16) -> bool
         }
         return code_bars(code, flags);
     }
-    if number == 267 {
+    if number == GPP_11 {
         return kind != 3;
     }
     if kind < 4 {
@@ -115,7 +136,7 @@ fn status_of(kind: u32) -> u32
 
 // Whether a status is the kind's own; "free in kind 1".
 fn status_allowed(kind: u32, status: u32) -> bool
-    requires { ⌜ Known kind ⌝ }
+    requires { ⌜ (1 ≤ kind) × (kind ≤ 6) ⌝ }
     ensures { λ r. ⌜ r ≡ eqb kind 1 || eqb status (statusOf kind) ⌝ }
 {
     if kind == 1 {
@@ -124,10 +145,10 @@ fn status_allowed(kind: u32, status: u32) -> bool
     status == status_of(kind)
 }
 
-// "Allowed values, where the shape holds".
+// "Allowed values, where the shape holds", whatever the flags.
 fn allowed(kind: u32, number: u16, value: &[u8]) -> bool
-    requires { ⌜ Known kind × (meets (shapeOf number) (now value) ≡ true) ⌝ }
-    ensures { λ r. ⌜ r ≡ shapes.allowed kind number (now (value .entry)) ⌝ }
+    requires { ⌜ (1 ≤ kind) × (kind ≤ 6) × (meets (shapeOf number) (now value) ≡ true) ⌝ }
+    ensures { λ r. ⌜ ((flags : ℕ) → r ≡ shapes.allowed (comes kind flags) number (now (value .entry))) ⌝ }
 {
     match number {
         6 => octets::u32_at(value, 0) == 2,
@@ -141,17 +162,17 @@ fn allowed(kind: u32, number: u16, value: &[u8]) -> bool
             (1 <= cause) & (cause <= 18)
         }
         40 => status_allowed(kind, octets::u32_at(value, 0)),
-        259 => octets::u32_at(value, 0) == 0,
-        267 => octets::u32_at(value, 0) == 255,
-        268 => octets::digit_value(value[0]) <= 2,
+        GPP_3 => octets::u32_at(value, 0) == 0,
+        GPP_11 => octets::u32_at(value, 0) == 255,
+        GPP_12 => octets::digit_value(value[0]) <= 2,
         _ => true,
     }
 }
 
 // Rule 2: "shape met, value not allowed".
 fn offends(kind: u32, number: u16, value: &[u8], met: bool) -> bool
-    requires { ⌜ Known kind × (met ≡ meets (shapeOf number) (now value)) ⌝ }
-    ensures { λ r. ⌜ r ≡ met && not (shapes.allowed kind number (now (value .entry))) ⌝ }
+    requires { ⌜ (1 ≤ kind) × (kind ≤ 6) × (met ≡ meets (shapeOf number) (now value)) ⌝ }
+    ensures { λ r. ⌜ ((flags : ℕ) → r ≡ met && not (shapes.allowed (comes kind flags) number (now (value .entry)))) ⌝ }
 {
     if !met {
         return false;
@@ -174,8 +195,8 @@ fn entry_of(place: usize, rule: u32, number: u16) -> u32
 
 // Lays an entry into the list from `at` on, if it stands, and says where the next goes; one that the list has no room for is counted.
 fn put(list: &mut [u32], at: usize, stands: bool, place: usize, rule: u32, number: u16) -> usize
-    requires { ⌜ (at < 65536) × (place ≤ 4076) × (rule < 8) × (number < 512) ⌝ }
-    ensures { λ r. ⌜ Put stands (entry place rule number) (now (list .entry)) at r (now (list .exit)) ⌝ }
+    requires { ⌜ (at < mostEntries) × (place ≤ 4076) × (rule < 8) × (number < 512) ⌝ }
+    ensures { λ r. ⌜ LaysOne stands (entry place rule number) (now (list .entry)) at r (now (list .exit)) ⌝ }
 {
     if !stands {
         return at;
@@ -199,8 +220,9 @@ fn at_attribute(
     value: &[u8],
     again: bool,
 ) -> usize
-    requires { ⌜ (at < 60000) × (place ≤ 4076) × (number < 512) × Known kind × Row kind (now codes) ⌝ }
-    ensures { λ r. ⌜ Laid (chosen (brokenBy kind flags again place number (now (value .entry)))) (now (list .entry)) at r (now (list .exit)) ⌝ }
+    requires { ⌜ (at + 4 ≤ mostEntries) × (place ≤ 4076) × (number < 512) × Known (comes kind flags) × Row (comes kind flags) (now codes) ⌝ }
+    ensures { λ r. ⌜ (let c = comes kind flags in
+        LaysEntries (chosen (brokenBy c again (viewAt c place number (now (value .entry))))) (now (list .entry)) at r (now (list .exit))) ⌝ }
 {
     let met = shape::meets(number, value);
     let offending = offends(kind, number, value, met);
@@ -225,8 +247,8 @@ fn along(
     flags: u32,
     list: &mut [u32],
 ) -> Tally
-    requires { ⌜ Ready kind (now area) (now codes) × Seen (now seen) [] ⌝ }
-    ensures { λ r. ⌜ AlongSays kind flags (now (area .entry)) (now (list .entry)) r (now (list .exit)) (now (seen .exit)) ⌝ }
+    requires { ⌜ Ready (comes kind flags) (now area) (now codes) × Notes (now seen) [] ⌝ }
+    ensures { λ r. ⌜ AlongSays (comes kind flags) (now (area .entry)) (now (list .entry)) r (now (list .exit)) (now (seen .exit)) ⌝ }
 {
     let mut place: usize = 0;
     let mut written: usize = 0;
@@ -267,161 +289,92 @@ fn along(
     }
 }
 
-// Rule 7: "Kinds 1, 2, 3, 6", where 3GPP 3 goes with plain attribute 7.
+// Rule 7: "Kinds 1, 2, 3, 6", where 3GPP 3 goes with plain attribute 7; whatever the flags.
 fn asks_pdp_type(kind: u32) -> bool
-    ensures { λ r. ⌜ r ≡ asksPdpType kind ⌝ }
+    ensures { λ r. ⌜ ((flags : ℕ) → r ≡ meant.asksPdpType (comes kind flags)) ⌝ }
 {
     (kind == 1) | ((kind == 2) | ((kind == 3) | (kind == 6)))
 }
 
-// Lays rule 6's entry for a plain number, if the row demands it and it was not seen.
-fn put_lacking(
-    list: &mut [u32],
-    at: usize,
-    codes: &[u8],
-    seen: &[bool; 512],
-    place: usize,
-    number: u16,
-) -> usize
-    requires { ⌜ (at < 65536) × (place ≤ 4076) × (number < 256) × (length (now codes) ≡ 256) ⌝ }
-    ensures { λ r. ⌜ PutOf (lacksBy (now (codes .entry)) (now (seen .entry)) place number) (now (list .entry)) at r (now (list .exit)) ⌝ }
+// Whether rule 7 asks for a number: a plain one by the row, 3GPP 3 by plain attribute 7.
+fn wanted(codes: &[u8], seen: &[bool; 512], kind: u32, flags: u32, number: u16) -> bool
+    requires { ⌜ length (now codes) ≡ 256 ⌝ }
+    ensures { λ r. ⌜ r ≡ wantedBy (comes kind flags) (now (codes .entry)) (now (seen .entry)) number ⌝ }
 {
-    let n = number as usize;
-    put(list, at, lacks(codes[n], seen[n]), place, 6, number)
+    if number < 256 {
+        return code_wants(codes[number as usize], flags, seen[32]);
+    }
+    asks_pdp_type(kind) & seen[7]
 }
 
-// Lays rule 7's entry for a plain number, if the row wants it and it was not seen.
+// Lays what rule 6 breaks, by the row of the kind and the numbers seen.
+fn put_lacking(list: &mut [u32], at: usize, codes: &[u8], seen: &[bool; 512], place: usize) -> usize
+    requires { ⌜ (at + 5 ≤ mostEntries) × (place ≤ 4076) × (length (now codes) ≡ 256) ⌝ }
+    ensures { λ r. ⌜ LaysEntries (chosen (map (lacksBy (now (codes .entry)) (now (seen .entry)) place) demandable))
+        (now (list .entry)) at r (now (list .exit)) ⌝ }
+{
+    let mut written = at;
+    let mut i: usize = 0;
+    while i < 5 {
+        let number = DEMANDABLE[i];
+        let n = number as usize;
+        written = put(list, written, lacks(codes[n], seen[n]), place, 6, number);
+        i += 1;
+    }
+    written
+}
+
+// Lays what rule 7 breaks, by the row of the kind and the numbers seen.
 fn put_wanting(
     list: &mut [u32],
     at: usize,
     codes: &[u8],
     seen: &[bool; 512],
+    kind: u32,
     flags: u32,
     place: usize,
-    number: u16,
 ) -> usize
-    requires { ⌜ (at < 65536) × (place ≤ 4076) × (number < 256) × (length (now codes) ≡ 256) ⌝ }
-    ensures { λ r. ⌜ PutOf (wantsBy flags (now (codes .entry)) (now (seen .entry)) place number) (now (list .entry)) at r (now (list .exit)) ⌝ }
+    requires { ⌜ (at + 6 ≤ mostEntries) × (place ≤ 4076) × (length (now codes) ≡ 256) ⌝ }
+    ensures { λ r. ⌜ LaysEntries (chosen (map (wantsBy (comes kind flags) (now (codes .entry)) (now (seen .entry)) place) wantable))
+        (now (list .entry)) at r (now (list .exit)) ⌝ }
 {
-    let n = number as usize;
-    put(
-        list,
-        at,
-        wants(codes[n], flags, seen[32], seen[n]),
-        place,
-        7,
-        number,
-    )
+    let mut written = at;
+    let mut i: usize = 0;
+    while i < 6 {
+        let number = WANTABLE[i];
+        let n = number as usize;
+        let wants = wanted(codes, seen, kind, flags, number) & !seen[n];
+        written = put(list, written, wants, place, 7, number);
+        i += 1;
+    }
+    written
 }
 
-// Lays what the end breaks by rule 5, and by rule 6 for 1 and 8.
-fn lacking_first(
+// Lays what the end breaks, rules 5 to 7.
+fn at_end(
     list: &mut [u32],
     at: usize,
     codes: &[u8],
     seen: &[bool; 512],
     kind: u32,
+    flags: u32,
     place: usize,
 ) -> usize
-    requires { ⌜ (at < 65000) × (place ≤ 4076) × (length (now codes) ≡ 256) ⌝ }
-    ensures { λ r. ⌜ Laid (chosen (lackingFirst kind (now (codes .entry)) (now (seen .entry)) place)) (now (list .entry)) at r (now (list .exit)) ⌝ }
+    requires { ⌜ (at + 12 ≤ mostEntries) × (place ≤ 4076) × (length (now codes) ≡ 256) ⌝ }
+    ensures { λ r. ⌜ LaysEntries (chosen (endBy (comes kind flags) (now (codes .entry)) (now (seen .entry)) place))
+        (now (list .entry)) at r (now (list .exit)) ⌝ }
 {
     let both = (kind == 1) & (seen[2] & seen[3]);
     let first = put(list, at, both, place, 5, 3);
-    let second = put_lacking(list, first, codes, seen, place, 1);
-    put_lacking(list, second, codes, seen, place, 8)
-}
-
-// Lays what the end breaks by rule 6 for 30, 40 and 44.
-fn lacking_then(
-    list: &mut [u32],
-    at: usize,
-    codes: &[u8],
-    seen: &[bool; 512],
-    place: usize,
-) -> usize
-    requires { ⌜ (at < 65000) × (place ≤ 4076) × (length (now codes) ≡ 256) ⌝ }
-    ensures { λ r. ⌜ Laid (chosen (lackingThen (now (codes .entry)) (now (seen .entry)) place)) (now (list .entry)) at r (now (list .exit)) ⌝ }
-{
-    let first = put_lacking(list, at, codes, seen, place, 30);
-    let second = put_lacking(list, first, codes, seen, place, 40);
-    put_lacking(list, second, codes, seen, place, 44)
-}
-
-// Lays what the end breaks by rules 5 and 6.
-fn at_end_lacking(
-    list: &mut [u32],
-    at: usize,
-    codes: &[u8],
-    seen: &[bool; 512],
-    kind: u32,
-    place: usize,
-) -> usize
-    requires { ⌜ (at < 60000) × (place ≤ 4076) × (length (now codes) ≡ 256) ⌝ }
-    ensures { λ r. ⌜ Laid (chosen (lackingIn kind (now (codes .entry)) (now (seen .entry)) place)) (now (list .entry)) at r (now (list .exit)) ⌝ }
-{
-    let next = lacking_first(list, at, codes, seen, kind, place);
-    lacking_then(list, next, codes, seen, place)
-}
-
-// Lays what the end breaks by rule 7 for 2, 3 and 4.
-fn wanting_first(
-    list: &mut [u32],
-    at: usize,
-    codes: &[u8],
-    seen: &[bool; 512],
-    flags: u32,
-    place: usize,
-) -> usize
-    requires { ⌜ (at < 65000) × (place ≤ 4076) × (length (now codes) ≡ 256) ⌝ }
-    ensures { λ r. ⌜ Laid (chosen (wantingFirst flags (now (codes .entry)) (now (seen .entry)) place)) (now (list .entry)) at r (now (list .exit)) ⌝ }
-{
-    let first = put_wanting(list, at, codes, seen, flags, place, 2);
-    let second = put_wanting(list, first, codes, seen, flags, place, 3);
-    put_wanting(list, second, codes, seen, flags, place, 4)
-}
-
-// Lays what the end breaks by rule 7 for 25, 3GPP 3 and 60.
-fn wanting_then(
-    list: &mut [u32],
-    at: usize,
-    codes: &[u8],
-    seen: &[bool; 512],
-    kind: u32,
-    flags: u32,
-    place: usize,
-) -> usize
-    requires { ⌜ (at < 65000) × (place ≤ 4076) × (length (now codes) ≡ 256) ⌝ }
-    ensures { λ r. ⌜ Laid (chosen (wantingThen kind flags (now (codes .entry)) (now (seen .entry)) place)) (now (list .entry)) at r (now (list .exit)) ⌝ }
-{
-    let protocol = asks_pdp_type(kind) & (seen[7] & !seen[259]);
-    let first = put_wanting(list, at, codes, seen, flags, place, 25);
-    let second = put(list, first, protocol, place, 7, 259);
-    put_wanting(list, second, codes, seen, flags, place, 60)
-}
-
-// Lays what the end breaks by rule 7, rising: 3GPP 3 stands between 25 and 60.
-fn at_end_wanting(
-    list: &mut [u32],
-    at: usize,
-    codes: &[u8],
-    seen: &[bool; 512],
-    kind: u32,
-    flags: u32,
-    place: usize,
-) -> usize
-    requires { ⌜ (at < 60000) × (place ≤ 4076) × (length (now codes) ≡ 256) ⌝ }
-    ensures { λ r. ⌜ Laid (chosen (wantingIn kind flags (now (codes .entry)) (now (seen .entry)) place)) (now (list .entry)) at r (now (list .exit)) ⌝ }
-{
-    let next = wanting_first(list, at, codes, seen, flags, place);
-    wanting_then(list, next, codes, seen, kind, flags, place)
+    let second = put_lacking(list, first, codes, seen, place);
+    put_wanting(list, second, codes, seen, kind, flags, place)
 }
 
 // Passes over an area: lays the entries of its breaches into the list, as many as it has room for, and counts them all; or gives the
 // first refusal of the framing.
 fn pass(area: &[u8], codes: &[u8], kind: u32, flags: u32, list: &mut [u32]) -> Tally
-    requires { ⌜ Ready kind (now area) (now codes) ⌝ }
-    ensures { λ r. ⌜ PassSays kind flags (now (area .entry)) (now (list .entry)) r (now (list .exit)) ⌝ }
+    requires { ⌜ Ready (comes kind flags) (now area) (now codes) ⌝ }
+    ensures { λ r. ⌜ PassSays (comes kind flags) (now (area .entry)) (now (list .entry)) r (now (list .exit)) ⌝ }
 {
     let mut seen = [false; 512];
     match along(area, codes, &mut seen, kind, flags, list) {
@@ -429,8 +382,7 @@ fn pass(area: &[u8], codes: &[u8], kind: u32, flags: u32, list: &mut [u32]) -> T
             return Tally::Broken(refusal);
         }
         Tally::Whole(at) => {
-            let next = at_end_lacking(list, at, codes, &seen, kind, area.len());
-            let last = at_end_wanting(list, next, codes, &seen, kind, flags, area.len());
+            let last = at_end(list, at, codes, &seen, kind, flags, area.len());
             return Tally::Whole(last);
         }
     }
@@ -452,11 +404,11 @@ fn copy_entries(list: &mut [u32], entries: &[u32])
 // areas break little or nothing, and then one pass is enough.
 fn lay(area: &[u8], kind: u32, flags: u32, list: &mut [u32]) -> Checking
     requires { ⌜ arrivalOf kind flags (length (now area)) ≡ Fit ⌝ }
-    ensures { λ r. ⌜ Checked kind flags (now (area .entry)) (now (list .entry)) r (now (list .exit)) ⌝ }
+    ensures { λ r. ⌜ Checked (comes kind flags) (now (area .entry)) (now (list .entry)) r (now (list .exit)) ⌝ }
 {
     let row = presence::row_of(kind);
     let codes = &row[..];
-    let mut few = [0u32; 32];
+    let mut few = [0u32; FEW];
     match pass(area, codes, kind, flags, &mut few) {
         Tally::Broken(refusal) => {
             return Checking::Refused(refusal);
@@ -468,7 +420,7 @@ fn lay(area: &[u8], kind: u32, flags: u32, list: &mut [u32]) -> Checking
                     second: needed,
                 });
             }
-            if needed <= 32 {
+            if needed <= FEW {
                 copy_entries(list, &few[..needed]);
                 return Checking::List(needed);
             }
@@ -480,7 +432,7 @@ fn lay(area: &[u8], kind: u32, flags: u32, list: &mut [u32]) -> Checking
 
 // "Check: the same inputs give a list of breaches", at the buffer's start; a refusal leaves the buffer as it was.
 pub fn check(area: &[u8], kind: u32, flags: u32, list: &mut [u32]) -> Checking
-    ensures { λ r. ⌜ Checked kind flags (now (area .entry)) (now (list .entry)) r (now (list .exit)) ⌝ }
+    ensures { λ r. ⌜ Checked (comes kind flags) (now (area .entry)) (now (list .entry)) r (now (list .exit)) ⌝ }
 {
     match area::arrive(area, kind, flags) {
         Arrival::Refused(refusal) => {

@@ -10,14 +10,14 @@ use lib.ListN.{length}
 use borrow.Author.Tests.{ltb-true}
 use Rattle.meaning.specs.Octets.{isIn}
 use Rattle.meaning.specs.Jobs.{pap, chap, class, Context}
-use Rattle.meaning.specs.Framing.{gpp, Attribute, walk, attributes}
+use Rattle.meaning.specs.Framing.{gpp, Attribute, walk}
 use Rattle.meaning.specs.Sheet.{typeOf, subOf}
 use Rattle.meaning.specs.Presence.{isSession, mandatory, withPap, withChap, withClass, conditional}
 use Rattle.meaning.specs.Breaches.{entry, misses, offends, onceOnly, asksPdpType, Among, Present, Absent, After}
 use Rattle.meaning.specs.Breaches.{Wanted, byName, byFlags, byProtocol}
 use Rattle.meaning.specs.Breaches.{Breach, shape1, value2, again3, here4, both5, lacks6, wants7, Lists}
 use Rattle.meaning.specs.Listing.{Candidate, chosen, View, view, brokenBy, atAttribute, along, demandable, wantable, lacking}
-use Rattle.meaning.specs.Listing.{wants, wanting, atEnd, numbersOf, breaches, listOf}
+use Rattle.meaning.specs.Listing.{wants, wanting, atEnd, numbersOf, breaches, viewsOf, listOf}
 use Rattle.meaning.proofs.Tests.{parts, both, either, left-or, right-or, in-among, among-in, in-within}
 use Rattle.meaning.proofs.Rising.{among-left, among-right, among-map, Ordered, ordered-lower, ordered-append, key-between}
 use Rattle.meaning.proofs.Rising.{Chosen, chosen-left, chosen-right, Each, each-append, each-map, each-chosen, chosen-lists}
@@ -30,7 +30,7 @@ Placed p (a ∷ l) size = (p ≤ a .place) × (a .number < 512) × Placed (suc (
 -- For request 12: areas of one length whose attributes have the same views have the same list.
 pub same-views : (c : Context) (area other : List ℕ)
     → length area ≡ length other
-    → map (view c) (attributes (walk area)) ≡ map (view c) (attributes (walk other))
+    → viewsOf c (walk area) ≡ viewsOf c (walk other)
     → listOf c area ≡ listOf c other
 unfolding listOf
 same-views c area other s v = ap₂ (breaches c) s v

@@ -7,7 +7,7 @@ use lib.Dec.{eqb}
 use lib.ListN.{length}
 use Rattle.meaning.specs.Octets.{isIn}
 use Rattle.meaning.specs.Jobs.{Context}
-use Rattle.meaning.specs.Framing.{gpp, Attribute, walk, attributes}
+use Rattle.meaning.specs.Framing.{gpp, Attribute, Walk, walk, attributes}
 use Rattle.meaning.specs.Shapes.{allowed}
 use Rattle.meaning.specs.Presence.{mandatory, conditional}
 use Rattle.meaning.specs.Breaches.{entry, met, onceOnly, barred, asksPdpType}
@@ -98,6 +98,10 @@ numbersOf = map (λ (x : View). x .number)
 unfoldable pub breaches : Context → (size : ℕ) → List View → List ℕ
 breaches c size l = chosen (along c [] l ++ atEnd c size (numbersOf l))
 
+-- the views of the attributes that a walk passes
+abbrev pub viewsOf : Context → Walk → List View
+viewsOf c w = map (view c) (attributes w)
+
 -- "a list of breaches" of an area, its attributes taken from the walk
 unfoldable pub listOf : Context → (area : List ℕ) → List ℕ
-listOf c area = breaches c (length area) (map (view c) (attributes (walk area)))
+listOf c area = breaches c (length area) (viewsOf c (walk area))

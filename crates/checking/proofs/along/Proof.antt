@@ -10,6 +10,7 @@ use Rattle.octets.proofs.Parts.{slice-octets}
 use Rattle.area.proofs.Steps.{Stands, step-attribute, step-refused, step-ended}
 use Rattle.area.proofs.Carrying.{step-carried}
 use Rattle.meaning.specs.Octets.{Octets, isIn}
+use Rattle.meaning.specs.Jobs.{comes}
 use Rattle.meaning.specs.Breaches.{onceOnly}
 use Rattle.checking.proofs.Laying.{laid-kept}
 use Rattle.checking.proofs.Walking.{Looking, looking-unseen, looking-start, looking-none, looking-on, looking-found, looking-more}
@@ -26,7 +27,7 @@ abbrev μ-search : tie.MeasureT-search
 
 abbrev Inv-loop : tie.InvT-loop
 Inv-loop area codes seen₀ kind flags list₀ place₀ written₀ seen list place written =
-    Passing kind flags area list₀ list seen place written
+    Passing (comes kind flags) area list₀ list seen place written
 
 abbrev μ-loop : tie.MeasureT-loop
 μ-loop area codes seen₀ kind flags list₀ place₀ written₀ seen list place written = length area - place
@@ -61,7 +62,7 @@ flag c =
     (c .if1 .came)
 
 loop-holds : tie.Need-loop-holds Inv-search μ-search Inv-loop μ-loop
-loop-holds c = passing-none _ _ _ _ _ (c .before .before .before .pre .1)
+loop-holds c = passing-none _ _ _ _ (c .before .before .before .pre .1)
 
 step-at-requires : tie.Need-step-at-requires Inv-search μ-search Inv-loop μ-loop
 step-at-requires c κs = search needs
@@ -114,7 +115,7 @@ at-attribute-requires c κs =
     let k = here (c .before .before) in
     let p = k .before .before .before .before .loop .inv in
     let y = k .before .before .before .before .before .before .before .before .pre .0 in
-    (omega (arith, p .few, p .inside, y .short), omega (arith, p .inside, y .short), low k, y .known, y .row)
+    (omega (arith, p .few, stands k .onwards, stands k .inside, y .short), omega (arith, p .inside, y .short), low k, y .known, y .row)
 
 loop-less : tie.Need-loop-less Inv-search μ-search Inv-loop μ-loop
 loop-less c =
@@ -126,7 +127,7 @@ loop-again c =
     let t = c .before .before .before .before .before in
     let k = here t in
     let told = step-carried _ _ (octets k) _ (k .before .before .before .step-at .ensures) _ _ _ (k .before .number .given .1) in
-    passing-more _ _ _ _ _ _ _ _ (k .before .before .before .before .loop .inv) _ _ _ told (stands k) (low k) _ _ _ _ (flag t) refl (c .before .before .at-attribute .ensures)
+    passing-more _ _ _ _ _ _ _ (k .before .before .before .before .loop .inv) _ _ _ told (stands k) (low k) _ _ _ _ (flag t) refl (c .before .before .at-attribute .ensures)
 
 enum-known-refusal : tie.Need-enum-known-refusal Inv-search μ-search Inv-loop μ-loop
 enum-known-refusal c = search needs
@@ -136,7 +137,7 @@ same-length c = laid-kept _ _ _ _ _ (c .before .before .before .before .loop .in
 
 returns : tie.Need-returns Inv-search μ-search Inv-loop μ-loop
 returns c =
-    passing-broken _ _ _ _ _ _ _ _ (c .before .before .before .before .loop .inv) _
+    passing-broken _ _ _ _ _ _ _ (c .before .before .before .before .loop .inv) _
     (step-refused _ _ _ (c .before .before .before .step-at .ensures) _ (c .before .refusal .given .1))
 
 enum-told : tie.Need-enum-told Inv-search μ-search Inv-loop μ-loop
@@ -147,7 +148,7 @@ same-length-2 c = laid-kept _ _ _ _ _ (c .before .before .before .loop .inv .lay
 
 returns-2 : tie.Need-returns-2 Inv-search μ-search Inv-loop μ-loop
 returns-2 c =
-    passing-done _ _ _ _ _ _ _ _ (c .before .before .before .loop .inv)
+    passing-done _ _ _ _ _ _ _ (c .before .before .before .loop .inv)
     (step-ended _ _ _ (c .before .before .step-at .ensures) (c .enum-told .given .1))
 
 pub along-spec : {M : Type 1} → statement M

@@ -14,7 +14,7 @@ enum-known-refusal c = search needs
 
 returns : tie.Need-returns
 returns c =
-    refused-checked _ _ _ _ _ (refused-first _ _ _ _ (c .before .before .before .arrive .ensures) _ (c .before .refusal .given .1))
+    refused-checked _ _ _ _ (refused-first _ _ _ _ (c .before .before .before .arrive .ensures) _ (c .before .refusal .given .1))
 
 enum-told : tie.Need-enum-told
 enum-told c = search needs

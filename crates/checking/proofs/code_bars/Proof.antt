@@ -1,6 +1,6 @@
 -- `checking::code_bars` meets its contract. Assumes nothing.
 use mathlib.Core.Bool.{or-false}
-use Rattle.meaning.specs.Presence.{codeBars}
+use Rattle.meaning.specs.Codes.{codeBars}
 use Rattle.checking.proofs.code_bars.Statement.{statement}
 use Rattle.checking.proofs.code_bars.Tie as tie
 

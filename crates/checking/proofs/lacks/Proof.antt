@@ -1,6 +1,6 @@
 -- `checking::lacks` meets its contract. Assumes nothing.
 use mathlib.Core.Path.{refl}
-use Rattle.meaning.specs.Presence.{codeDemands}
+use Rattle.meaning.specs.Codes.{codeDemands}
 use Rattle.checking.proofs.lacks.Statement.{statement}
 use Rattle.checking.proofs.lacks.Tie as tie
 
