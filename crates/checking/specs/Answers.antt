@@ -14,6 +14,4 @@ checkingOf (meant.refused n k) = is.Refused (record { number = n; second = k })
 
 -- what checking promises of its answer and of the lent buffer
 abbrev pub Checked : Context → (area buffer : List ℕ) (said : Checking) (held : List ℕ) → Type 0
-Checked c area buffer said held =
-    let answer = meant.checkAnswer c area (length buffer) in
-    meant.Promise (checkingOf answer) answer buffer said held
+Checked = meant.Checks checkingOf

@@ -1,103 +1,190 @@
 -- Idle builds that the promises shut out: one that refuses everything, one whose list is fixed, one that writes nothing, one that
 -- decodes the first attribute and stores the rest raw, one that invents the number of entries. A build is what it answers and what it
--- leaves in the lent buffer, for every input. Assumes nothing.
+-- leaves in the lent buffer, for every input. Each is idle on readable areas with room and may do all else right. Assumes nothing.
 use mathlib.Core.Path.{_≡_, refl, sym, ap, _∙_}
+use mathlib.Core.Bool.{cond}
 use mathlib.Core.List.{List, [], _∷_, _++_}
 use Prim.Native.Nat.{ℕ, _≤_}
 use native.Mathlib.Omega.{arith}
-use lib.ListN.{length, take, replicate, getD}
-use Rattle.meaning.specs.Framing.{walk, attributes}
-use Rattle.meaning.specs.Sheet.{Readable}
+use lib.ListN.{length, replicate, getD}
+use Rattle.meaning.specs.Versions.{current}
+use Rattle.meaning.specs.Jobs.{Context, comes}
+use Rattle.meaning.specs.Framing.{isPlain, Attribute, walk, attributes}
+use Rattle.meaning.specs.Sheet.{typeOf, subOf, item, sheetHead, sheetOf, Readable}
 use Rattle.meaning.specs.Breaches.{Breach, Lists}
-use Rattle.meaning.specs.Answers.{given, listOf, over, after, readAnswer, checkAnswer}
+use Rattle.meaning.specs.Listing.{listOf}
+use Rattle.meaning.specs.Answers.{given, over, after, readAnswer}
 use Rattle.meaning.specs.Seen.{areaA, sheetA}
+use Rattle.meaning.proofs.Placed.{list-lists}
 use Rattle.meaning.proofs.Computing.{computing}
 use Rattle.desk.specs.declared.Refusal.{Refusal}
 use Rattle.desk.specs.declared.Reading.{Reading}
 use Rattle.desk.specs.declared.Reading.the-variants as reading
 use Rattle.desk.specs.declared.Checking.{Checking}
 use Rattle.desk.specs.declared.Checking.the-variants as checking
-use Rattle.desk.specs.Answers.{readingOf, checkingOf, Read, Checked}
+use Rattle.desk.specs.Answers.{readingOf, Read, Checked}
+use Rattle.desk.specs.Calls.{CheckCall}
 use Rattle.desk.proofs.Demands.{list-of-breaches}
 
--- a build of reading and one of checking: for kind, flags, area and buffer, what is said and what the buffer holds then
+-- ---- Builds of reading
+
+-- for kind, flags, area and buffer, what is said and what the buffer holds then
 abbrev pub ReadBuild : Type 0
 ReadBuild = (kind flags : ℕ) (area buffer : List ℕ) → Reading × List ℕ
 
-abbrev pub CheckBuild : Type 0
-CheckBuild = (kind flags : ℕ) (area buffer : List ℕ) → Checking × List ℕ
-
 -- a build keeps the promise for every input
 abbrev pub KeepsRead : ReadBuild → Type 0
-KeepsRead b = (kind flags : ℕ) (area buffer : List ℕ) → Read kind flags area buffer (b kind flags area buffer .0) (b kind flags area buffer .1)
+KeepsRead b =
+    (kind flags : ℕ) (area buffer : List ℕ) → Read kind flags area buffer (b kind flags area buffer .0) (b kind flags area buffer .1)
 
-abbrev pub KeepsCheck : CheckBuild → Type 0
-KeepsCheck b = (kind flags : ℕ) (area buffer : List ℕ) → Checked kind flags area buffer (b kind flags area buffer .0) (b kind flags area buffer .1)
+-- what a build does with each readable area that has room for its sheet
+abbrev pub OnReadable : ((kind flags : ℕ) (area buffer : List ℕ) → Type 0) → Type 0
+OnReadable Does =
+    (kind flags : ℕ) (area buffer : List ℕ) → Readable kind flags area → length (sheetOf kind flags area) ≤ length buffer
+    → Does kind flags area buffer
 
--- P1: area A in kind 4 with a buffer of 24 octets, all zero
+-- P1: area A in kind 4; a buffer of zeros
+p1-readable : Readable 4 0 areaA
+unfolding computing
+p1-readable = record { octets = omega arith; accepted = refl }
+
+p1-sheet : sheetOf 4 0 areaA ≡ sheetA
+unfolding computing
+p1-sheet = refl
+
 abbrev zeros : List ℕ
-zeros = replicate 24 0
+zeros = replicate 26 0
 
-p1 : readAnswer 4 0 areaA 24 ≡ given sheetA
+p1-room : length (sheetOf 4 0 areaA) ≤ 26
+p1-room = omega (arith, ap length p1-sheet)
+
+p1 : readAnswer 4 0 areaA 26 ≡ given sheetA
 unfolding computing
 p1 = refl
 
-p1-held : (b : ReadBuild) → KeepsRead b → b 4 0 areaA zeros .1 ≡ sheetA
+p1-held : (b : ReadBuild) → KeepsRead b → b 4 0 areaA zeros .1 ≡ sheetA ++ 0 ∷ 0 ∷ []
 unfolding after over
 p1-held b keeps = keeps 4 0 areaA zeros .holds ∙ rw p1
 
+-- what is said is a refusal
+pub record Refusing (said : Reading) : Type 0 where
+  pub what : Refusal
+  pub is : said ≡ reading.Refused what
+
 -- One that refuses everything is shut out by demand 2's "exactly when": P1 is read.
-pub refuses-everything : (b : ReadBuild) → KeepsRead b → (r : (kind flags : ℕ) (area buffer : List ℕ) → Refusal) → ((kind flags : ℕ) (area buffer : List ℕ) → b kind flags area buffer .0 ≡ reading.Refused (r kind flags area buffer)) → ⊥
-refuses-everything b keeps r refuses =
+pub refuses-everything :
+    (b : ReadBuild) → KeepsRead b → OnReadable (λ kind flags area buffer. Refusing (b kind flags area buffer .0)) → ⊥
+refuses-everything b keeps idle =
     let said : b 4 0 areaA zeros .0 ≡ reading.Sheet 24 = keeps 4 0 areaA zeros .says ∙ ap readingOf p1 in
-    let other = refuses 4 0 areaA zeros in
+    let other = idle 4 0 areaA zeros p1-readable p1-room .is in
     let z : _≡_ {A = ℕ} 0 1 = cc in
     omega arith
 
 -- One that writes nothing is shut out by demand 2's sheet: P1's stands in the buffer.
-pub writes-nothing : (b : ReadBuild) → KeepsRead b → ((kind flags : ℕ) (area buffer : List ℕ) → b kind flags area buffer .1 ≡ buffer) → ⊥
-writes-nothing b keeps nothing =
-    let first : _≡_ {A = ℕ} 71 0 = ap (λ (l : List ℕ). getD l 0 0) (sym (p1-held b keeps) ∙ nothing 4 0 areaA zeros) in
+pub writes-nothing :
+    (b : ReadBuild) → KeepsRead b → OnReadable (λ kind flags area buffer. b kind flags area buffer .1 ≡ buffer) → ⊥
+writes-nothing b keeps idle =
+    let held = sym (p1-held b keeps) ∙ idle 4 0 areaA zeros p1-readable p1-room in
+    let first : _≡_ {A = ℕ} 71 0 = ap (λ (l : List ℕ). getD l 0 0) held in
     omega arith
 
--- P1's sheet with the second attribute stored as it stands, in form 1
-abbrev rest-raw : List ℕ
-rest-raw = take 17 sheetA ++ 0x1A ∷ 8 ∷ 1 ∷ 5 ∷ 0x30 ∷ 0x30 ∷ 0x31 ∷ 0x30 ∷ 0x31 ∷ []
+-- the items of attributes as they stand, in form 0 or 1
+abbrev rawItems : List Attribute → List ℕ
+rawItems [] = []
+rawItems (a ∷ l) =
+    (typeOf (a .number) ∷ subOf (a .number) ∷ cond (isPlain (a .number)) 0 1 ∷ length (a .value) ∷ a .value) ++ rawItems l
 
-p1-wide : readAnswer 4 0 areaA 26 ≡ given sheetA
+-- a sheet in which the first attribute alone is decoded
+abbrev firstDecoded : (kind flags : ℕ) → List Attribute → List ℕ
+firstDecoded kind flags [] = sheetHead current kind flags 0
+firstDecoded kind flags (a ∷ l) = sheetHead current kind flags (length (a ∷ l)) ++ item current (a .number) (a .value) ++ rawItems l
+
+-- the same of an area
+abbrev pub firstOnly : (kind flags : ℕ) → List ℕ → List ℕ
+firstOnly kind flags area = firstDecoded kind flags (attributes (walk area))
+
+-- it stands in the buffer, where there is room for it
+abbrev pub FirstOnly : (kind flags : ℕ) (area buffer held : List ℕ) → Type 0
+FirstOnly kind flags area buffer held =
+    length (firstOnly kind flags area) ≤ length buffer → held ≡ over (firstOnly kind flags area) buffer
+
+p1-first : over (firstOnly 4 0 areaA) zeros ≡ firstOnly 4 0 areaA
+unfolding computing over
+p1-first = refl
+
+p1-form : getD (firstOnly 4 0 areaA) 19 0 ≡ 1
 unfolding computing
-p1-wide = refl
+p1-form = refl
 
--- One that decodes the first attribute and stores the rest raw is shut out by the only-form rule: the second item's form is 4.
-pub decodes-the-first : (b : ReadBuild) → KeepsRead b → b 4 0 areaA (replicate 26 0) .1 ≡ rest-raw → ⊥
-unfolding after over
-decodes-the-first b keeps raw =
-    let held : b 4 0 areaA (replicate 26 0) .1 ≡ sheetA ++ 0 ∷ 0 ∷ [] = keeps 4 0 areaA (replicate 26 0) .holds ∙ rw p1-wide in
-    let form : _≡_ {A = ℕ} 4 1 = ap (λ (l : List ℕ). getD l 19 0) (sym held ∙ raw) in
+p1-fits : length (firstOnly 4 0 areaA) ≤ 26
+unfolding computing
+p1-fits = omega arith
+
+-- One that decodes the first attribute and stores the rest raw is shut out by the only-form rule: P1's second item has form 4.
+pub decodes-the-first :
+    (b : ReadBuild) → KeepsRead b
+    → OnReadable (λ kind flags area buffer. FirstOnly kind flags area buffer (b kind flags area buffer .1)) → ⊥
+decodes-the-first b keeps idle =
+    let raw : b 4 0 areaA zeros .1 ≡ firstOnly 4 0 areaA = idle 4 0 areaA zeros p1-readable p1-room p1-fits ∙ p1-first in
+    let form : _≡_ {A = ℕ} 4 1 = ap (λ (l : List ℕ). getD l 19 0) (sym (p1-held b keeps) ∙ raw) ∙ p1-form in
     omega arith
 
--- P4 and P5 with a buffer of 8 entries
-p4 : checkAnswer 1 0 [] 8 ≡ given (0x00060100 ∷ 0x00061E00 ∷ 0x00070400 ∷ [])
-unfolding computing
-p4 = refl
+-- ---- Builds of checking
 
-p5 : checkAnswer 4 0 [] 8 ≡ given (0x00070400 ∷ [])
+abbrev pub CheckBuild : Type 0
+CheckBuild = (c : Context) (area buffer : List ℕ) → Checking × List ℕ
+
+abbrev pub KeepsCheck : CheckBuild → Type 0
+KeepsCheck b = (c : Context) (area buffer : List ℕ) → Checked c area buffer (b c area buffer .0) (b c area buffer .1)
+
+-- a list of exactly the breaches of a readable area, and a buffer with room for it
+pub record Listable (c : Context) (area buffer l : List ℕ) : Type 0 where
+  pub readable : Readable (c .kind) (c .flags) area
+  pub lists : Lists l (Breach c (length area) (attributes (walk area)))
+  pub room : length l ≤ length buffer
+
+-- One that invents the number of entries is shut out by demand 3: the number is the length of any list of exactly the breaches.
+pub number-invented :
+    (b : CheckBuild) → KeepsCheck b → (c : Context) (area buffer l : List ℕ) → Listable c area buffer l
+    → (n : ℕ) → b c area buffer .0 ≡ checking.List n → n ≡ length l
+number-invented b keeps c area buffer l a n said =
+    let call : CheckCall =
+    record {
+      comes = c;
+      area = area;
+      octets = a .readable .octets;
+      buffer = buffer;
+      said = b c area buffer .0;
+      held = b c area buffer .1;
+      promised = keeps c area buffer;
+    } in
+    let listed = list-of-breaches call (a .readable) l (a .lists) (a .room) in
+    let e : checking.List n ≡ checking.List (length l) = sym said ∙ listed .says in
+    cc
+
+-- P4 and P5: the empty area in kinds 1 and 4, with room for 8 entries
+empty :
+    (kind : ℕ) → Readable kind 0 [] → length (listOf (comes kind 0) []) ≤ 8
+    → Listable (comes kind 0) [] (replicate 8 0) (listOf (comes kind 0) [])
+empty kind r room = record { readable = r; lists = list-lists (comes kind 0) [] tt; room = room }
+
+p4 : Listable (comes 1 0) [] (replicate 8 0) (listOf (comes 1 0) [])
 unfolding computing
-p5 = refl
+p4 = empty 1 (record { octets = tt; accepted = refl }) (omega arith)
+
+p5 : Listable (comes 4 0) [] (replicate 8 0) (listOf (comes 4 0) [])
+unfolding computing
+p5 = empty 4 (record { octets = tt; accepted = refl }) (omega arith)
+
+p4-p5 : (length (listOf (comes 1 0) []) ≡ 3) × (length (listOf (comes 4 0) []) ≡ 1)
+unfolding computing
+p4-p5 = (refl, refl)
 
 -- One whose list is fixed, say empty, is shut out by demand 3 with P4 and P5: they have three entries and one.
-pub list-fixed : (b : CheckBuild) → KeepsCheck b → (l : List ℕ) → ((kind flags : ℕ) (area buffer : List ℕ) → b kind flags area buffer .0 ≡ checking.List (length l)) → ⊥
+pub list-fixed :
+    (b : CheckBuild) → KeepsCheck b → (l : List ℕ)
+    → ((c : Context) (area buffer m : List ℕ) → Listable c area buffer m → b c area buffer .0 ≡ checking.List (length l)) → ⊥
 list-fixed b keeps l fixed =
-    let three : checking.List 3 ≡ checking.List (length l) = sym (keeps 1 0 [] (replicate 8 0) .says ∙ ap checkingOf p4) ∙ fixed 1 0 [] (replicate 8 0) in
-    let one : checking.List 1 ≡ checking.List (length l) = sym (keeps 4 0 [] (replicate 8 0) .says ∙ ap checkingOf p5) ∙ fixed 4 0 [] (replicate 8 0) in
-    let same : _≡_ {A = ℕ} 3 1 = cc in
-    omega arith
-
--- One that invents the number of entries is shut out by demand 3: the number is the length of the list of the breaches, whatever
--- list that rises and has exactly these is taken.
-pub number-invented : (b : CheckBuild) → KeepsCheck b → (kind flags : ℕ) (area buffer : List ℕ) → Readable kind flags area → length (listOf kind flags area) ≤ length buffer → (n : ℕ) → b kind flags area buffer .0 ≡ checking.List n → (l : List ℕ) → Lists l (Breach kind flags (length area) (attributes (walk area))) → n ≡ length l
-number-invented b keeps kind flags area buffer a room n said l lists =
-    let x = list-of-breaches kind flags area buffer (b kind flags area buffer .1) (b kind flags area buffer .0) a room (keeps kind flags area buffer) in
-    let e : checking.List n ≡ checking.List (length (x .list)) = sym said ∙ x .stands .says in
-    let same : n ≡ length (x .list) = cc in
-    same ∙ ap length (sym (x .only l lists))
+    let three = number-invented b keeps (comes 1 0) [] (replicate 8 0) _ p4 (length l) (fixed (comes 1 0) [] (replicate 8 0) _ p4) in
+    let one = number-invented b keeps (comes 4 0) [] (replicate 8 0) _ p5 (length l) (fixed (comes 4 0) [] (replicate 8 0) _ p5) in
+    omega (arith, three, one, p4-p5 .0, p4-p5 .1)

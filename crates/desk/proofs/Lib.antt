@@ -1,3 +1,4 @@
 pub mod Faces
+pub mod Calling
 pub mod Demands
 pub mod Idle

@@ -1,8 +1,8 @@
 -- What the desk's answers stand for, in the numbers and values of document 01. Assumes nothing.
 use Prim.Native.Nat.{ℕ}
-use mathlib.Core.Path.{_≡_}
 use mathlib.Core.List.{List}
 use lib.ListN.{length}
+use Rattle.meaning.specs.Jobs.{Context}
 use Rattle.meaning.specs.Answers as meant
 use Rattle.desk.specs.declared.Refusal.{Refusal}
 use Rattle.desk.specs.declared.Reading.{Reading}
@@ -30,25 +30,20 @@ abbrev pub writingOf : meant.Answer meant.Written → Writing
 writingOf (meant.given w) = writing.Area (length (w .area)) (w .kind) (w .flags)
 writingOf (meant.refused n k) = writing.Refused (record { number = n; second = k })
 
--- what reading answers, and what the lent buffer holds then
-pub record Read (kind flags : ℕ) (area buffer : List ℕ) (said : Reading) (held : List ℕ) : Type 0 where
-  pub says : said ≡ readingOf (meant.readAnswer kind flags area (length buffer))
-  pub holds : held ≡ meant.after (meant.readAnswer kind flags area (length buffer)) buffer
+-- what each job answers for its input, and what the lent buffer holds then
+abbrev pub Read : (kind flags : ℕ) (area buffer : List ℕ) (said : Reading) (held : List ℕ) → Type 0
+Read = meant.Reads readingOf
 
--- what checking answers, and what the lent buffer holds then
-pub record Checked (kind flags : ℕ) (area buffer : List ℕ) (said : Checking) (held : List ℕ) : Type 0 where
-  pub says : said ≡ checkingOf (meant.checkAnswer kind flags area (length buffer))
-  pub holds : held ≡ meant.after (meant.checkAnswer kind flags area (length buffer)) buffer
+abbrev pub Checked : Context → (area buffer : List ℕ) (said : Checking) (held : List ℕ) → Type 0
+Checked = meant.Checks checkingOf
 
--- what writing answers, and what the lent buffer holds then
-pub record Wrote (sheet buffer : List ℕ) (said : Writing) (held : List ℕ) : Type 0 where
-  pub says : said ≡ writingOf (meant.writeAnswer sheet (length buffer))
-  pub holds : held ≡ meant.after (meant.areaAnswer (meant.writeAnswer sheet (length buffer))) buffer
+abbrev pub Wrote : (sheet buffer : List ℕ) (said : Writing) (held : List ℕ) → Type 0
+Wrote = meant.Writes writingOf
 
 -- ---- The same for callers in C and Rust
 
 -- the answer of a job that was done
-unfoldable pub doneOf : (length kind flags : ℕ) → Answer
+unfoldable pub doneOf : (octets kind flags : ℕ) → Answer
 doneOf n k f = record { refused = 0; number = 0; second = 0; length = n; kind = k; flags = f }
 
 -- the answer of a job that was refused
@@ -69,14 +64,11 @@ writingOut (writing.Area n k f) = doneOf n k f
 writingOut (writing.Refused r) = refusedOf r
 
 -- what the exports answer: the enum's cases, by the definitions above
-pub record ReadOut (kind flags : ℕ) (area buffer : List ℕ) (said : Answer) (held : List ℕ) : Type 0 where
-  pub says : said ≡ readingOut (readingOf (meant.readAnswer kind flags area (length buffer)))
-  pub holds : held ≡ meant.after (meant.readAnswer kind flags area (length buffer)) buffer
+abbrev pub ReadOut : (kind flags : ℕ) (area buffer : List ℕ) (said : Answer) (held : List ℕ) → Type 0
+ReadOut = meant.Reads (λ a. readingOut (readingOf a))
 
-pub record CheckedOut (kind flags : ℕ) (area buffer : List ℕ) (said : Answer) (held : List ℕ) : Type 0 where
-  pub says : said ≡ checkingOut (checkingOf (meant.checkAnswer kind flags area (length buffer)))
-  pub holds : held ≡ meant.after (meant.checkAnswer kind flags area (length buffer)) buffer
+abbrev pub CheckedOut : Context → (area buffer : List ℕ) (said : Answer) (held : List ℕ) → Type 0
+CheckedOut = meant.Checks (λ a. checkingOut (checkingOf a))
 
-pub record WroteOut (sheet buffer : List ℕ) (said : Answer) (held : List ℕ) : Type 0 where
-  pub says : said ≡ writingOut (writingOf (meant.writeAnswer sheet (length buffer)))
-  pub holds : held ≡ meant.after (meant.areaAnswer (meant.writeAnswer sheet (length buffer))) buffer
+abbrev pub WroteOut : (sheet buffer : List ℕ) (said : Answer) (held : List ℕ) → Type 0
+WroteOut = meant.Writes (λ a. writingOut (writingOf a))

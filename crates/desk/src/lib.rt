@@ -1,6 +1,7 @@
 // The desk: read, check and write, for callers in Rattle, which need this crate alone, and for callers in C and Rust, by the exports
 // whose names begin with gir_. Every entry takes any octets and any numbers and refuses bad ones by number.
 ghost use mathlib.Core.Path.{_≡_};
+ghost use Rattle.meaning.specs.Jobs.{comes};
 ghost use Rattle.desk.specs.Answers.{Read, Checked, Wrote, doneOf, refusedOf, ReadOut, CheckedOut, WroteOut};
 
 // A refusal of the book: its number and its second number.
@@ -58,7 +59,7 @@ pub fn read(area: &[u8], kind: u32, flags: u32, sheet: &mut [u8]) -> Reading
 
 // "Check: the same inputs give a list of breaches", at the buffer's start; a refusal leaves the buffer as it was.
 pub fn check(area: &[u8], kind: u32, flags: u32, list: &mut [u32]) -> Checking
-    ensures { λ r. ⌜ Checked kind flags (now (area .entry)) (now (list .entry)) r (now (list .exit)) ⌝ }
+    ensures { λ r. ⌜ Checked (comes kind flags) (now (area .entry)) (now (list .entry)) r (now (list .exit)) ⌝ }
 {
     match checking::check(area, kind, flags, list) {
         checking::Checking::List(length) => {
@@ -144,7 +145,7 @@ pub extern "C" fn gir_read(area: &[u8], kind: u32, flags: u32, sheet: &mut [u8])
 // `check`, for callers in C and Rust.
 #[no_mangle]
 pub extern "C" fn gir_check(area: &[u8], kind: u32, flags: u32, list: &mut [u32]) -> Answer
-    ensures { λ r. ⌜ CheckedOut kind flags (now (area .entry)) (now (list .entry)) r (now (list .exit)) ⌝ }
+    ensures { λ r. ⌜ CheckedOut (comes kind flags) (now (area .entry)) (now (list .entry)) r (now (list .exit)) ⌝ }
 {
     match check(area, kind, flags, list) {
         Checking::List(length) => {

@@ -17,7 +17,7 @@ same-length : tie.Need-same-length
 same-length c = search needs
 
 returns : tie.Need-returns
-returns c = check-out _ _ _ _ _ _ (c .before .before .before .before .before .before .check .ensures) _ _ (c .before .before .length .given .1) (c .done .ensures)
+returns c = check-out _ _ _ _ _ (c .before .before .before .before .before .before .check .ensures) _ _ (c .before .before .length .given .1) (c .done .ensures)
 
 enum-known-refusal : tie.Need-enum-known-refusal
 enum-known-refusal c = search needs
@@ -29,7 +29,7 @@ same-length-2 : tie.Need-same-length-2
 same-length-2 c = search needs
 
 returns-2 : tie.Need-returns-2
-returns-2 c = check-out _ _ _ _ _ _ (c .before .before .before .before .before .before .check .ensures) _ _ (c .before .before .refusal .given .1) (c .refused .ensures)
+returns-2 c = check-out _ _ _ _ _ (c .before .before .before .before .before .before .check .ensures) _ _ (c .before .before .refusal .given .1) (c .refused .ensures)
 
 pub gir-check-spec : {M : Type 1} → statement M
 gir-check-spec =

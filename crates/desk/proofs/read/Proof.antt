@@ -1,6 +1,6 @@
 -- The cases of `reading::read`, as the desk's. Assumes nothing.
 use borrow.Author.Needs.{needs}
-use Rattle.desk.proofs.Faces.{read-done, read-refused}
+use Rattle.desk.proofs.Faces.{read-faced}
 use Rattle.desk.proofs.read.Statement.{statement}
 use Rattle.desk.proofs.read.Tie as tie
 
@@ -14,7 +14,7 @@ same-length : tie.Need-same-length
 same-length c = search needs
 
 returns : tie.Need-returns
-returns c = read-done _ _ _ _ _ _ (c .before .before .before .before .before .read .ensures) _ (c .before .length .given .1)
+returns c = read-faced _ _ _ _ _ _ (c .before .before .before .before .before .read .ensures) _ (c .before .length .given .1)
 
 enum-known-refusal : tie.Need-enum-known-refusal
 enum-known-refusal c = search needs
@@ -23,7 +23,7 @@ same-length-2 : tie.Need-same-length-2
 same-length-2 c = search needs
 
 returns-2 : tie.Need-returns-2
-returns-2 c = read-refused _ _ _ _ _ _ (c .before .before .before .before .before .read .ensures) _ (c .before .refusal .given .1)
+returns-2 c = read-faced _ _ _ _ _ _ (c .before .before .before .before .before .read .ensures) _ (c .before .refusal .given .1)
 
 pub read-spec : {M : Type 1} → statement M
 read-spec =
