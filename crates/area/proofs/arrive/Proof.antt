@@ -6,14 +6,8 @@ use Rattle.area.proofs.Arriving.{bad-kind, bad-flags, too-long, all-fit
 use Rattle.area.proofs.arrive.Statement.{statement}
 use Rattle.area.proofs.arrive.Tie as tie
 
-is-kind-requires : tie.Need-is-kind-requires
-is-kind-requires c κs = search needs
-
 returns : tie.Need-returns
 returns c = bad-kind _ _ _ (sym (c .before .is-kind .ensures) ∙ not-true _ (c .if1 .taken))
-
-are-flags-requires : tie.Need-are-flags-requires
-are-flags-requires c κs = search needs
 
 returns-2 : tie.Need-returns-2
 returns-2 c =
@@ -36,9 +30,9 @@ pub arrive-spec : {M : Type 1} → statement M
 arrive-spec =
     tie.close
     (tie.spec
-    is-kind-requires
+    (λ c κs. search needs)
     returns
-    are-flags-requires
+    (λ c κs. search needs)
     returns-2
     returns-3
     returns-4)

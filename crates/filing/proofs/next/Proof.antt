@@ -5,18 +5,6 @@ use Rattle.filing.specs.Steps.{nextOf}
 use Rattle.filing.proofs.next.Statement.{statement}
 use Rattle.filing.proofs.next.Tie as tie
 
-enum-told : tie.Need-enum-told
-enum-told c = search needs
-
-next-well-requires : tie.Need-next-well-requires
-next-well-requires c κs = search needs
-
-enum-told-2 : tie.Need-enum-told-2
-enum-told-2 c = search needs
-
-next-badly-requires : tie.Need-next-badly-requires
-next-badly-requires c κs = search needs
-
 returns : tie.Need-returns
 returns c = c .next-well .ensures ∙ sym (ap (nextOf (c .before .before .before .args .step)) (c .before .enum-told .given .1))
 
@@ -26,4 +14,4 @@ returns-2 c = c .next-badly .ensures ∙ sym (ap (nextOf (c .before .before .bef
 pub next-spec : {M : Type 1} → statement M
 next-spec =
     tie.close
-    (tie.spec enum-told next-well-requires enum-told-2 next-badly-requires returns returns-2)
+    (tie.spec (λ c. search needs) (λ c κs. search needs) (λ c. search needs) (λ c κs. search needs) returns returns-2)

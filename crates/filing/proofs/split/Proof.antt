@@ -6,17 +6,8 @@ use Rattle.filing.proofs.Names.{no-tab, no-in, no-out, two-tabs, zero-o
 use Rattle.filing.proofs.split.Statement.{statement}
 use Rattle.filing.proofs.split.Tie as tie
 
-before-requires : tie.Need-before-requires
-before-requires c κs = search needs
-
 returns : tie.Need-returns
 returns c = no-tab (c .before .before .before .args .line .now) (c .before .before2 .result) _ (c .before .before2 .ensures) refl (omega arith)
-
-add-start : tie.Need-add-start
-add-start c = search needs
-
-sub-out : tie.Need-sub-out
-sub-out c = search needs
 
 returns-2 : tie.Need-returns-2
 returns-2 c = no-in (c .before .before .before .before .args .line .now) (c .before .before .before2 .result) _ (c .before .before .before2 .ensures) refl (omega arith) (c .if2 .taken)
@@ -24,23 +15,8 @@ returns-2 c = no-in (c .before .before .before .before .args .line .now) (c .bef
 returns-3 : tie.Need-returns-3
 returns-3 c = no-out (c .before .before .before .before .before .args .line .now) (c .before .before .before .before2 .result) _ (c .before .before .before .before2 .ensures) refl (omega arith) (c .before .if2 .left) (c .if3 .taken)
 
-sub-before : tie.Need-sub-before
-sub-before c = search needs
-
-part-before-start : tie.Need-part-before-start
-part-before-start c = search needs
-
-part-before-end : tie.Need-part-before-end
-part-before-end c = search needs
-
-before-requires-2 : tie.Need-before-requires-2
-before-requires-2 c κs = search needs
-
 returns-4 : tie.Need-returns-4
 returns-4 c = two-tabs (c .before .before .before .before .before .before .before .before .args .line .now) (c .before .before .before .before .before .before .before2 .result) _ (c .before .before .before .before .before .before .before2 .ensures) refl (omega arith) (c .before .before .before .before .if2 .left) (c .before .before .before .if3 .left) _ (c .before .before3 .ensures) (omega arith)
-
-before-requires-3 : tie.Need-before-requires-3
-before-requires-3 c κs = search needs
 
 returns-5 : tie.Need-returns-5
 returns-5 c = zero-octet (c .before .before .before .before .before .before .before .before .before .before .args .line .now) (c .before .before .before .before .before .before .before .before .before2 .result) _ (c .before .before .before .before .before .before .before .before .before2 .ensures) refl (omega arith) (c .before .before .before .before .before .before .if2 .left) (c .before .before .before .before .before .if3 .left) _ (c .before .before .before .before3 .ensures) (omega arith) _ (c .before .before4 .ensures) (omega arith)
@@ -58,18 +34,18 @@ pub split-spec : {M : Type 1} → statement M
 split-spec =
     tie.close
     (tie.spec
-    before-requires
+    (λ c κs. search needs)
     returns
-    add-start
-    sub-out
+    (λ c. search needs)
+    (λ c. search needs)
     returns-2
     returns-3
-    sub-before
-    part-before-start
-    part-before-end
-    before-requires-2
+    (λ c. search needs)
+    (λ c. search needs)
+    (λ c. search needs)
+    (λ c κs. search needs)
     returns-4
-    before-requires-3
+    (λ c κs. search needs)
     returns-5
     returns-6
     returns-7

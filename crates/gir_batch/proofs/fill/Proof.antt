@@ -8,33 +8,18 @@ use native.Mathlib.Omega.{arith}
 use Rattle.gir_batch.proofs.fill.Statement.{statement}
 use Rattle.gir_batch.proofs.fill.Tie as tie
 
-least-requires : tie.Need-least-requires
-least-requires c κs = search needs
-
-slice-relend-prefix-read-full : tie.Need-slice-relend-prefix-read-full
-slice-relend-prefix-read-full c = search needs
-
 slice-aggregate-read-full : tie.Need-slice-aggregate-read-full
 slice-aggregate-read-full c =
     let h : c .before .least .result ≤ length (c .before .before .before .args .buf .now) = omega (arith, c .before .least .ensures) in
     sym (length-take-le _ _ h)
 
-read-full-requires : tie.Need-read-full-requires
-read-full-requires c κs = search needs
-
-same-length : tie.Need-same-length
-same-length c = search needs
-
-returns : tie.Need-returns
-returns c = search needs
-
 pub fill-spec : {M : Type 1} → statement M
 fill-spec =
     tie.close
     (tie.spec
-    least-requires
-    slice-relend-prefix-read-full
+    (λ c κs. search needs)
+    (λ c. search needs)
     slice-aggregate-read-full
-    read-full-requires
-    same-length
-    returns)
+    (λ c κs. search needs)
+    (λ c. search needs)
+    (λ c. search needs))

@@ -6,55 +6,22 @@ use Rattle.octets.proofs.Overs.{fits-room}
 use Rattle.gir_batch.proofs.put.Statement.{statement}
 use Rattle.gir_batch.proofs.put.Tie as tie
 
-copy-at-requires : tie.Need-copy-at-requires
-copy-at-requires c κs = search needs
-
 add-result : tie.Need-add-result
 add-result c = omega (arith, fits-room _ _ _ (sym (c .before .before .before .copy-at .ensures .says) ∙ c .if1 .taken))
-
-same-length : tie.Need-same-length
-same-length c = search needs
-
-returns : tie.Need-returns
-returns c = search needs
-
-part-requires : tie.Need-part-requires
-part-requires c κs = search needs
-
-write-out-requires : tie.Need-write-out-requires
-write-out-requires c κs = search needs
-
-copy-at-requires-2 : tie.Need-copy-at-requires-2
-copy-at-requires-2 c κs = search needs
-
-same-length-2 : tie.Need-same-length-2
-same-length-2 c = search needs
-
-returns-2 : tie.Need-returns-2
-returns-2 c = search needs
-
-write-out-requires-2 : tie.Need-write-out-requires-2
-write-out-requires-2 c κs = search needs
-
-same-length-3 : tie.Need-same-length-3
-same-length-3 c = search needs
-
-returns-3 : tie.Need-returns-3
-returns-3 c = search needs
 
 pub put-spec : {M : Type 1} → statement M
 put-spec =
     tie.close
     (tie.spec
-    copy-at-requires
+    (λ c κs. search needs)
     add-result
-    same-length
-    returns
-    part-requires
-    write-out-requires
-    copy-at-requires-2
-    same-length-2
-    returns-2
-    write-out-requires-2
-    same-length-3
-    returns-3)
+    (λ c. search needs)
+    (λ c. search needs)
+    (λ c κs. search needs)
+    (λ c κs. search needs)
+    (λ c κs. search needs)
+    (λ c. search needs)
+    (λ c. search needs)
+    (λ c κs. search needs)
+    (λ c. search needs)
+    (λ c. search needs))

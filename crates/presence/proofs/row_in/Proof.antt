@@ -8,14 +8,8 @@ use Rattle.presence.proofs.Rows.{row-of-test}
 use Rattle.presence.proofs.row_in.Statement.{statement}
 use Rattle.presence.proofs.row_in.Tie as tie
 
-mul-result : tie.Need-mul-result
-mul-result c = search needs
-
-element-copy-out-result : tie.Need-element-copy-out-result
-element-copy-out-result c = search needs
-
 returns : tie.Need-returns
 returns c = row-of-test _ 0 6 _ _ (c .before .pre .0) _ (c .before .pre .1) ∙ ap (λ (k : ℕ). rowBy (byKind k)) (zero-add _)
 
 pub row-in-spec : {M : Type 1} → statement M
-row-in-spec = tie.close (tie.spec mul-result element-copy-out-result returns)
+row-in-spec = tie.close (tie.spec (λ c. search needs) (λ c. search needs) returns)

@@ -8,9 +8,6 @@ use Rattle.presence.proofs.Rows.{row-of-kind, no-kind}
 use Rattle.presence.proofs.row_of.Statement.{statement}
 use Rattle.presence.proofs.row_of.Tie as tie
 
-cast-row-in : tie.Need-cast-row-in
-cast-row-in c = search needs
-
 -- The test: all 1,536 entries of the const agree with the presence lines, computed.
 table-agrees : tie.Need-row-in-requires
 unfolding agrees rowBy byKind code mandatory
@@ -28,4 +25,4 @@ unfolding rowOf
 returns-3 c = rw (no-kind (c .before .before .args .kind) (λ l m. omega (arith, l, m)))
 
 pub row-of-spec : {M : Type 1} → statement M
-row-of-spec = tie.close (tie.spec cast-row-in table-agrees returns returns-2 returns-3)
+row-of-spec = tie.close (tie.spec (λ c. search needs) table-agrees returns returns-2 returns-3)
