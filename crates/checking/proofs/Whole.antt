@@ -45,8 +45,8 @@ pass-laid c area codes seen y d one held first said p q =
     record {
       sound = p .sound;
       lays =
-          chosen-both (along c [] (viewsOf c (walk area))) (atEnd c (length area) (numbersOf (viewsOf c (walk area)))) d one held 0 first said (p .lays)
-          (rw end at q);
+          chosen-both (along c [] (viewsOf c (walk area))) (atEnd c (length area) (numbersOf (viewsOf c (walk area)))) d one held 0 first
+          said (p .lays) (rw end at q);
     }
 
 -- The answer of `along`, known by what it ensures and by the arm of a match.

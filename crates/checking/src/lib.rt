@@ -220,9 +220,11 @@ fn at_attribute(
     value: &[u8],
     again: bool,
 ) -> usize
-    requires { ⌜ (at + 4 ≤ mostEntries) × (place ≤ 4076) × (number < 512) × Known (comes kind flags) × Row (comes kind flags) (now codes) ⌝ }
+    requires { ⌜ (at + 4 ≤ mostEntries) × (place ≤ 4076) × (number < 512) × Known (comes kind flags)
+        × Row (comes kind flags) (now codes) ⌝ }
     ensures { λ r. ⌜ (let c = comes kind flags in
-        LaysEntries (chosen (brokenBy c again (viewAt c place number (now (value .entry))))) (now (list .entry)) at r (now (list .exit))) ⌝ }
+        LaysEntries (chosen (brokenBy c again (viewAt c place number (now (value .entry)))))
+        (now (list .entry)) at r (now (list .exit))) ⌝ }
 {
     let met = shape::meets(number, value);
     let offending = offends(kind, number, value, met);

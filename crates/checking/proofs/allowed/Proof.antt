@@ -1,7 +1,8 @@
 -- `checking::allowed` meets its contract. Assumes nothing.
 use borrow.Author.Needs.{needs}
 use mathlib.Core.Path.{_∙_}
-use Rattle.checking.proofs.Values.{allowed-6, allowed-7, allowed-45, allowed-49, allowed-40, allowed-259, allowed-267, digit-there, allowed-268, allowed-other}
+use Rattle.checking.proofs.Values.{allowed-6, allowed-7, allowed-45, allowed-49}
+use Rattle.checking.proofs.Values.{allowed-40, allowed-259, allowed-267, digit-there, allowed-268, allowed-other}
 use Rattle.checking.proofs.allowed.Statement.{statement}
 use Rattle.checking.proofs.allowed.Tie as tie
 
@@ -59,7 +60,8 @@ returns-7 : tie.Need-returns-7
 returns-7 c flags = allowed-267 _ _ _ (c .before .before .before .pre .2) _ (c .u32-at7 .ensures) (c .before .match .keys7)
 
 returns-8 : tie.Need-returns-8
-returns-8 c flags = allowed-268 _ _ _ (c .before .before .before .before .pre .2) _ (c .before .before .match .keys8) (c .digit-value .ensures)
+returns-8 c flags =
+    allowed-268 _ _ _ (c .before .before .before .before .pre .2) _ (c .before .before .match .keys8) (c .digit-value .ensures)
 
 returns-9 : tie.Need-returns-9
 returns-9 c flags = allowed-other _ _ _ (c .match .rest)

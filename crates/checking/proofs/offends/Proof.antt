@@ -19,7 +19,8 @@ allowed-requires c κs =
 returns-2 : tie.Need-returns-2
 returns-2 c flags =
     let a = c .before .before .before .args in
-    offends-by (comes (a .kind) flags) (a .number) (a .value .now) (a .met) _ (not-false _ (c .before .if1 .left)) (c .allowed .ensures flags)
+    offends-by (comes (a .kind) flags) (a .number) (a .value .now) (a .met) _ (not-false _ (c .before .if1 .left))
+    (c .allowed .ensures flags)
 
 pub offends-spec : {M : Type 1} → statement M
 offends-spec = tie.close (tie.spec returns allowed-requires returns-2)
