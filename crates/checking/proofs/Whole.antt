@@ -82,7 +82,7 @@ module _ (c : Context) (area : List ℕ) (fit : arrivalOf (c .kind) (c .flags) (
   unfolding isKind
   arrived-ready codes e =
       let t = parts (leb 1 (c .kind)) (leb (c .kind) 6) (passes (isKind (c .kind)) (arrived .kind-ok)) in
-      let known : Known c = record { least = leb→le 1 (c .kind) (t .0); most = leb→le (c .kind) 6 (t .1) } in
+      let known : Known (c .kind) = record { least = leb→le 1 (c .kind) (t .0); most = leb→le (c .kind) 6 (t .1) } in
       record { short = arrived .short; known = known; row = row-known c codes known e }
 
   -- The first pass lays into a buffer e of its own, which is p then.

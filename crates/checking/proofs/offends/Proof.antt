@@ -14,7 +14,7 @@ returns c flags =
 allowed-requires : tie.Need-allowed-requires
 allowed-requires c κs =
     let p = c .before .before .pre in
-    (p .0, p .1, sym (p .2) ∙ not-false _ (c .if1 .left))
+    (p .0, sym (p .1) ∙ not-false _ (c .if1 .left))
 
 returns-2 : tie.Need-returns-2
 returns-2 c flags =
