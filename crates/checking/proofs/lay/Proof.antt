@@ -34,7 +34,8 @@ enum-known-needed c = search needs
 returns-2 : tie.Need-returns-2
 returns-2 c =
     let k = c .before .before .before .before .before in
-    too-long _ _ (k .before .before .before .before .before .before .pre) _ _ _ _ (k .pass .ensures) _ (c .before .before .needed .given .1) (c .if1 .taken)
+    too-long _ _ (k .before .before .before .before .before .before .pre) _ _ _ _ (k .pass .ensures) _
+    (c .before .before .needed .given .1) (c .if1 .taken)
 
 array-share-prefix-few : tie.Need-array-share-prefix-few
 array-share-prefix-few c = search needs
@@ -56,8 +57,8 @@ returns-3 : tie.Need-returns-3
 returns-3 c =
     let k = c .before .before .before .before .before .before in
     let p = k .before .before .before .before .before in
-    list-few _ _ (p .before .before .before .before .before .before .pre) _ _ _ _ (p .pass .ensures) _ (k .before .before .needed .given .1) _ (c .before .before .before .before .before .if2 .taken)
-    (k .if1 .left) (c .before .before .copy-entries .ensures)
+    list-few _ _ (p .before .before .before .before .before .before .pre) _ _ _ _ (p .pass .ensures) _
+    (k .before .before .needed .given .1) _ (c .before .before .before .before .before .if2 .taken) (k .if1 .left) (c .before .before .copy-entries .ensures)
 
 pass-requires-2 : tie.Need-pass-requires-2
 pass-requires-2 c κs =
@@ -71,8 +72,8 @@ returns-4 : tie.Need-returns-4
 returns-4 c =
     let k = c .before .before .before .before .before in
     let p = k .before .before .before .before .before in
-    list-laid _ _ (p .before .before .before .before .before .before .pre) _ _ _ _ (p .pass .ensures) _ (k .before .before .needed .given .1) _ _ (k .if1 .left)
-    (c .before .before .pass2 .ensures)
+    list-laid _ _ (p .before .before .before .before .before .before .pre) _ _ _ _ (p .pass .ensures) _
+    (k .before .before .needed .given .1) _ _ (k .if1 .left) (c .before .before .pass2 .ensures)
 
 pub lay-spec : {M : Type 1} → statement M
 lay-spec =
