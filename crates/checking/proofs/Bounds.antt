@@ -53,5 +53,11 @@ module _ (c : Context) where
       let l = viewsOf c (walk area) in
       let end = atEnd c (length area) (numbersOf l) in
       let e = ap length (chosen-append (along c [] l) end) ∙ length-append (chosen (along c [] l)) (chosen end) in
-      omega
-      (arith, e, along-bound [] l, end-bound (length area) (numbersOf l), length-map (attributes (walk area)) (view c), items-fit (c .kind) (c .flags) area r)
+      omega (
+        arith,
+        e,
+        along-bound [] l,
+        end-bound (length area) (numbersOf l),
+        length-map (attributes (walk area)) (view c),
+        items-fit (c .kind) (c .flags) area r,
+      )

@@ -152,11 +152,14 @@ module _ (c : Context) (l d out : List ℕ) (seen : List Bool) (place written : 
       let rest : List ℕ = chosen (along c (k .numbers ++ n ∷ []) (viewsOf c (walkAt l behind))) in
       let step : chosen (along c (k .numbers) (viewsOf c (walkAt l place))) ≡ now ++ rest =
       ap (λ (w : Walk). chosen (along c (k .numbers) (viewsOf c w))) (s .walks)
-      ∙ chosen-append (atAttribute c (k .numbers) (view c (attributeIn l place n p))) (along c (k .numbers ++ n ∷ []) (viewsOf c (walkAt l behind)))
+      ∙ chosen-append (atAttribute c (k .numbers) (view c (attributeIn l place n p)))
+      (along c (k .numbers ++ n ∷ []) (viewsOf c (walkAt l behind)))
       ∙ ap₂ (λ (b : Bool) (x : View). chosen (brokenBy c b x) ++ rest) (sym a) (view-in c l place n p behind v (s .ends) e) in
       record {
         numbers = k .numbers ++ n ∷ [];
-        reaches = reaches-more l 0 (k .numbers) place (record { number = n; value = p; next = behind }) says (omega (arith, s .onwards)) (k .reaches);
+        reaches =
+            reaches-more l 0 (k .numbers) place (record { number = n; value = p; next = behind }) says (omega (arith, s .onwards))
+            (k .reaches);
         same-fault = k .same-fault ∙ ap fault (s .walks);
         notes = notes-more seen (k .numbers) n low (k .notes);
         all =

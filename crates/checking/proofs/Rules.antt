@@ -9,6 +9,7 @@ use lib.ListN.{getD}
 use borrow.Author.Tests.{lt-ltb, le-ltb, le-leb, lt-leb, eqb-true, ne-eqb}
 use Rattle.meaning.specs.Octets.{between}
 use Rattle.meaning.specs.Jobs.{Context}
+use Rattle.meaning.specs.Framing.{gpp}
 use Rattle.meaning.specs.Presence.{notPermitted}
 use Rattle.meaning.specs.Codes.{codeBars}
 use Rattle.meaning.specs.Breaches.{entry, onceOnly, barred, isListed3gpp}
@@ -33,18 +34,18 @@ module _ (n place : ℕ) (once : Bool) (o : once ≡ onceOnly n) where
 
 -- a plain number is no 3GPP one
 plain-unlisted : (n : ℕ) → n < 256 → isListed3gpp n ≡ false
-plain-unlisted n h = rw (lt-leb 257 n (omega arith), ne-eqb n 274 (λ e. omega arith))
+plain-unlisted n h = rw (lt-leb (gpp 1) n (omega arith), ne-eqb n (gpp 18) (λ e. omega arith))
 
 pub barred-plain : (c : Context) (n : ℕ) (codes : List ℕ) (bars : Bool)
-    → Known c
+    → Known (c .kind)
     → Row c codes
     → n < 256
     → bars ≡ codeBars (getD codes n 0) (c .flags)
     → bars ≡ barred c n
 unfolding barred
 barred-plain c n codes bars k r h e =
-    e ∙ ap (λ (code : ℕ). codeBars code (c .flags)) (r .says n h) ∙ code-bars c n (known-kind c k) h
-    ∙ simp (ne-eqb n 267 (λ p. omega arith), plain-unlisted n h, and-false)
+    e ∙ ap (λ (code : ℕ). codeBars code (c .flags)) (r .says n h) ∙ code-bars c n (known-kind (c .kind) k) h
+    ∙ simp (ne-eqb n (gpp 11) (λ p. omega arith), plain-unlisted n h, and-false)
 
 -- a code below 2 bars nothing
 pub low-code : (code flags : ℕ) → code < 2 → false ≡ codeBars code flags
@@ -60,23 +61,23 @@ gpp-permitted c n h =
     simp (no 2 (omega arith), no 3 (omega arith), no 18 (omega arith), no 24 (omega arith), no 25 (omega arith), and-false)
 
 -- 3GPP 11
-pub barred-11 : (c : Context) (n : ℕ) → n ≡ 267 → not (eqb (c .kind) 3) ≡ barred c n
+pub barred-11 : (c : Context) (n : ℕ) → n ≡ gpp 11 → not (eqb (c .kind) 3) ≡ barred c n
 unfolding barred
-barred-11 c n e = rw (e, gpp-permitted c 267 (omega arith)) (go (eqb (c .kind) 3) refl)
+barred-11 c n e = rw (e, gpp-permitted c (gpp 11) (omega arith)) (go (eqb (c .kind) 3) refl)
   where
     go : (b : Bool) → eqb (c .kind) 3 ≡ b → not b ≡ not b || ((between 4 5 (c .kind) && true) || false)
     go true s = rw (eqb-true (c .kind) 3 s)
     go false s = refl
 
 -- another 3GPP number, in kinds 1 to 3 and in the others
-module _ (c : Context) (n : ℕ) (high : 256 ≤ n) (other : n ≡ 267 → ⊥) where
+module _ (c : Context) (n : ℕ) (high : 256 ≤ n) (other : n ≡ gpp 11 → ⊥) where
   pub barred-early : c .kind < 4 → false ≡ barred c n
   unfolding barred
-  barred-early k = simp (ne-eqb n 267 other, lt-leb 4 (c .kind) k, gpp-permitted c n high)
+  barred-early k = simp (ne-eqb n (gpp 11) other, lt-leb 4 (c .kind) k, gpp-permitted c n high)
 
   pub barred-late : (listed : Bool) → 4 ≤ c .kind → listed ≡ isListed3gpp n → leb (c .kind) 5 && listed ≡ barred c n
   unfolding barred
-  barred-late listed k e = simp (e, ne-eqb n 267 other, le-leb 4 (c .kind) k, gpp-permitted c n high, or-false)
+  barred-late listed k e = simp (e, ne-eqb n (gpp 11) other, le-leb 4 (c .kind) k, gpp-permitted c n high, or-false)
 
 -- ---- The entry
 

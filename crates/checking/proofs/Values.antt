@@ -9,6 +9,7 @@ use lib.ListN.{length, getD}
 use borrow.Author.Tests.{le-leb, ne-eqb, eqb-true}
 use Rattle.meaning.specs.Octets.{between, all, isDigit, numberOf, digitValue, values}
 use Rattle.meaning.specs.Jobs.{Context}
+use Rattle.meaning.specs.Framing.{gpp}
 use Rattle.meaning.specs.Shapes.{plainShape, gppShape, shapeOf, meets, statusOf, allowed}
 use Rattle.meaning.proofs.Tests.{parts, is-true, passes}
 use Rattle.shape.proofs.Codes.{Past}
@@ -20,13 +21,13 @@ whole-number : (v : List ℕ) (x : ℕ) → x ≡ numberOf (partOf v 0 4) → le
 whole-number v x e h = e ∙ ap numberOf (part-rest v 0 4 (omega arith))
 
 -- one decimal digit
-digit-long : (n : ℕ) (v : List ℕ) → meets (shapeOf n) v ≡ true → n ≡ 268 → length v ≡ 1
+digit-long : (n : ℕ) (v : List ℕ) → meets (shapeOf n) v ≡ true → n ≡ gpp 12 → length v ≡ 1
 unfolding shapeOf gppShape meets
 digit-long n v met p =
     let both = passes (eqb (length v) 1 && all isDigit v) (rw p at met) in
     eqb-true (length v) 1 (is-true (eqb (length v) 1) (parts (eqb (length v) 1) (all isDigit v) both .0))
 
-pub digit-there : (n : ℕ) (v : List ℕ) → meets (shapeOf n) v ≡ true → n ≡ 268 → 0 < length v
+pub digit-there : (n : ℕ) (v : List ℕ) → meets (shapeOf n) v ≡ true → n ≡ gpp 12 → 0 < length v
 digit-there n v met p = omega (arith, digit-long n v met p)
 
 -- The value v of the carried number n meets its shape; x is the number at its start.
@@ -58,17 +59,17 @@ module _ (c : Context) (n : ℕ) (v : List ℕ) (met : meets (shapeOf n) v ≡ t
     unfolding allowed shapeOf plainShape meets
     allowed-40 p = rw (p, four (rw p at met))
 
-    pub allowed-259 : n ≡ 259 → eqb x 0 ≡ allowed c n v
+    pub allowed-3gpp-3 : n ≡ gpp 3 → eqb x 0 ≡ allowed c n v
     unfolding allowed shapeOf gppShape meets
-    allowed-259 p = rw (p, four (rw p at met))
+    allowed-3gpp-3 p = rw (p, four (rw p at met))
 
-    pub allowed-267 : n ≡ 267 → eqb x 255 ≡ allowed c n v
+    pub allowed-3gpp-11 : n ≡ gpp 11 → eqb x 255 ≡ allowed c n v
     unfolding allowed shapeOf gppShape meets
-    allowed-267 p = rw (p, one (rw p at met))
+    allowed-3gpp-11 p = rw (p, one (rw p at met))
 
-  pub allowed-268 : (x : ℕ) → n ≡ 268 → x ≡ digitValue (getD v 0 0) → leb x 2 ≡ allowed c n v
+  pub allowed-3gpp-12 : (x : ℕ) → n ≡ gpp 12 → x ≡ digitValue (getD v 0 0) → leb x 2 ≡ allowed c n v
   unfolding allowed values numberOf
-  allowed-268 x p e = rw (p, e) (go v (digit-long n v met p))
+  allowed-3gpp-12 x p e = rw (p, e) (go v (digit-long n v met p))
     where
       go : (v : List ℕ) → length v ≡ 1 → leb (digitValue (getD v 0 0)) 2 ≡ between 0 2 (numberOf (values v))
       go [] h = absurd (omega arith)
@@ -79,7 +80,7 @@ module _ (c : Context) (n : ℕ) (v : List ℕ) (met : meets (shapeOf n) v ≡ t
 
 -- any other number
 pub allowed-other : (c : Context) (n : ℕ) (v : List ℕ)
-    → Past (Unit {0}) n (6 ∷ 7 ∷ 45 ∷ 49 ∷ 40 ∷ 259 ∷ 267 ∷ 268 ∷ [])
+    → Past (Unit {0}) n (6 ∷ 7 ∷ 45 ∷ 49 ∷ 40 ∷ gpp 3 ∷ gpp 11 ∷ gpp 12 ∷ [])
     → true ≡ allowed c n v
 unfolding allowed
 allowed-other c n v p =
@@ -89,9 +90,9 @@ allowed-other c n v p =
       ne-eqb n 45 (p .0 .0 .0 .0 .0 .1),
       ne-eqb n 49 (p .0 .0 .0 .0 .1),
       ne-eqb n 40 (p .0 .0 .0 .1),
-      ne-eqb n 259 (p .0 .0 .1),
-      ne-eqb n 267 (p .0 .1),
-      ne-eqb n 268 (p .1),
+      ne-eqb n (gpp 3) (p .0 .0 .1),
+      ne-eqb n (gpp 11) (p .0 .1),
+      ne-eqb n (gpp 12) (p .1),
     )
 
 -- ---- Shape met, value not allowed

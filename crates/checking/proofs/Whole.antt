@@ -45,8 +45,8 @@ pass-laid c area codes seen y d one held first said p q =
     record {
       sound = p .sound;
       lays =
-          chosen-both (along c [] (viewsOf c (walk area))) (atEnd c (length area) (numbersOf (viewsOf c (walk area)))) d one held 0 first said (p .lays)
-          (rw end at q);
+          chosen-both (along c [] (viewsOf c (walk area))) (atEnd c (length area) (numbersOf (viewsOf c (walk area)))) d one held 0 first
+          said (p .lays) (rw end at q);
     }
 
 -- The answer of `along`, known by what it ensures and by the arm of a match.
@@ -82,7 +82,7 @@ module _ (c : Context) (area : List ℕ) (fit : arrivalOf (c .kind) (c .flags) (
   unfolding isKind
   arrived-ready codes e =
       let t = parts (leb 1 (c .kind)) (leb (c .kind) 6) (passes (isKind (c .kind)) (arrived .kind-ok)) in
-      let known : Known c = record { least = leb→le 1 (c .kind) (t .0); most = leb→le (c .kind) 6 (t .1) } in
+      let known : Known (c .kind) = record { least = leb→le 1 (c .kind) (t .0); most = leb→le (c .kind) 6 (t .1) } in
       record { short = arrived .short; known = known; row = row-known c codes known e }
 
   -- The first pass lays into a buffer e of its own, which is p then.

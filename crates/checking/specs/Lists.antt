@@ -88,7 +88,7 @@ endBy c codes seen place =
 -- an area of at most 4,076 octets that comes with a known kind and its row
 pub record Ready (c : Context) (area codes : List ℕ) : Type 0 where
   pub short : length area ≤ 4076
-  pub known : Known c
+  pub known : Known (c .kind)
   pub row : Row c codes
 
 -- what a pass over a broken area says, the first refusal of the framing; the buffer keeps its length

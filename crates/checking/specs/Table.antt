@@ -7,9 +7,9 @@ use Rattle.meaning.specs.Jobs.{Context}
 use Rattle.meaning.specs.Codes.{code}
 
 -- a kind that is not refused
-pub record Known (c : Context) : Type 0 where
-  pub least : 1 ≤ c .kind
-  pub most : c .kind ≤ 6
+pub record Known (kind : ℕ) : Type 0 where
+  pub least : 1 ≤ kind
+  pub most : kind ≤ 6
 
 -- the row of a kind: the code of each plain number
 pub record Row (c : Context) (codes : List ℕ) : Type 0 where

@@ -24,20 +24,25 @@ ghost use Rattle.checking.specs.Lists.{mostEntries, LaysEntries, LaysOne
 ghost use Rattle.checking.specs.Lists.{lacksBy, wantedBy, wantsBy, endBy, Ready, AlongSays, PassSays};
 ghost use Rattle.checking.specs.Answers.{Checked};
 
-// 3GPP-IMSI, 3GPP-PDP-Type, 3GPP-Session-Stop-Indicator, 3GPP-Selection-Mode and 3GPP-SGSN-MCC-MNC, as carried numbers.
+// 3GPP-IMSI, as a carried number
 const GPP_1: u16 = 257;
 
+// 3GPP-PDP-Type
 const GPP_3: u16 = 259;
 
+// 3GPP-Session-Stop-Indicator
 const GPP_11: u16 = 267;
 
+// 3GPP-Selection-Mode
 const GPP_12: u16 = 268;
 
+// 3GPP-SGSN-MCC-MNC
 const GPP_18: u16 = 274;
 
-// The numbers that rule 6 can ask for, and those that rule 7 can, in the order of their entries; whether it does is said by the table.
+// The numbers that rule 6 can ask for, in the order of their entries; the table says where it does.
 const DEMANDABLE: [u16; 5] = [1, 8, 30, 40, 44];
 
+// Those that rule 7 can ask for: the entry of 3GPP 3, type 26, stands between those of 25 and 60.
 const WANTABLE: [u16; 6] = [2, 3, 4, 25, GPP_3, 60];
 
 // So many entries have room in the first pass.
@@ -105,7 +110,7 @@ fn search_end(number: u16, place: usize) -> usize
 
 // Rule 4: "not permitted here".
 fn barred(codes: &[u8], kind: u32, flags: u32, number: u16) -> bool
-    requires { ⌜ Known (comes kind flags) × Row (comes kind flags) (now codes) ⌝ }
+    requires { ⌜ Known kind × Row (comes kind flags) (now codes) ⌝ }
     ensures { λ r. ⌜ r ≡ meant.barred (comes kind flags) number ⌝ }
 {
     if number < 256 {
@@ -136,7 +141,7 @@ fn status_of(kind: u32) -> u32
 
 // Whether a status is the kind's own; "free in kind 1".
 fn status_allowed(kind: u32, status: u32) -> bool
-    requires { ⌜ (1 ≤ kind) × (kind ≤ 6) ⌝ }
+    requires { ⌜ Known kind ⌝ }
     ensures { λ r. ⌜ r ≡ eqb kind 1 || eqb status (statusOf kind) ⌝ }
 {
     if kind == 1 {
@@ -147,7 +152,7 @@ fn status_allowed(kind: u32, status: u32) -> bool
 
 // "Allowed values, where the shape holds", whatever the flags.
 fn allowed(kind: u32, number: u16, value: &[u8]) -> bool
-    requires { ⌜ (1 ≤ kind) × (kind ≤ 6) × (meets (shapeOf number) (now value) ≡ true) ⌝ }
+    requires { ⌜ Known kind × (meets (shapeOf number) (now value) ≡ true) ⌝ }
     ensures { λ r. ⌜ ((flags : ℕ) → r ≡ shapes.allowed (comes kind flags) number (now (value .entry))) ⌝ }
 {
     match number {
@@ -171,7 +176,7 @@ fn allowed(kind: u32, number: u16, value: &[u8]) -> bool
 
 // Rule 2: "shape met, value not allowed".
 fn offends(kind: u32, number: u16, value: &[u8], met: bool) -> bool
-    requires { ⌜ (1 ≤ kind) × (kind ≤ 6) × (met ≡ meets (shapeOf number) (now value)) ⌝ }
+    requires { ⌜ Known kind × (met ≡ meets (shapeOf number) (now value)) ⌝ }
     ensures { λ r. ⌜ ((flags : ℕ) → r ≡ met && not (shapes.allowed (comes kind flags) number (now (value .entry)))) ⌝ }
 {
     if !met {
@@ -220,9 +225,10 @@ fn at_attribute(
     value: &[u8],
     again: bool,
 ) -> usize
-    requires { ⌜ (at + 4 ≤ mostEntries) × (place ≤ 4076) × (number < 512) × Known (comes kind flags) × Row (comes kind flags) (now codes) ⌝ }
+    requires { ⌜ (at + 4 ≤ mostEntries) × (place ≤ 4076) × (number < 512) × Known kind × Row (comes kind flags) (now codes) ⌝ }
     ensures { λ r. ⌜ (let c = comes kind flags in
-        LaysEntries (chosen (brokenBy c again (viewAt c place number (now (value .entry))))) (now (list .entry)) at r (now (list .exit))) ⌝ }
+        LaysEntries (chosen (brokenBy c again (viewAt c place number (now (value .entry)))))
+        (now (list .entry)) at r (now (list .exit))) ⌝ }
 {
     let met = shape::meets(number, value);
     let offending = offends(kind, number, value, met);
@@ -315,7 +321,7 @@ fn put_lacking(list: &mut [u32], at: usize, codes: &[u8], seen: &[bool; 512], pl
 {
     let mut written = at;
     let mut i: usize = 0;
-    while i < 5 {
+    while i < DEMANDABLE.len() {
         let number = DEMANDABLE[i];
         let n = number as usize;
         written = put(list, written, lacks(codes[n], seen[n]), place, 6, number);
@@ -340,7 +346,7 @@ fn put_wanting(
 {
     let mut written = at;
     let mut i: usize = 0;
-    while i < 6 {
+    while i < WANTABLE.len() {
         let number = WANTABLE[i];
         let n = number as usize;
         let wants = wanted(codes, seen, kind, flags, number) & !seen[n];

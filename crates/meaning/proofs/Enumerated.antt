@@ -26,7 +26,8 @@ listed3gpp = 257 ∷ 258 ∷ 259 ∷ 260 ∷ 261 ∷ 262 ∷ 263 ∷ 264 ∷ 265
 -- the numbers of forms 2 to 7
 pub formed :
     map (λ f. those (λ n. eqb (formOf (shapeOf n)) f) 512) (2 ∷ 3 ∷ 4 ∷ 5 ∷ 6 ∷ 7 ∷ [])
-    ≡ (6 ∷ 7 ∷ 40 ∷ 41 ∷ 42 ∷ 43 ∷ 45 ∷ 46 ∷ 47 ∷ 48 ∷ 49 ∷ 61 ∷ 258 ∷ 259 ∷ []) ∷ (4 ∷ 8 ∷ 9 ∷ 260 ∷ 262 ∷ 263 ∷ []) ∷ (31 ∷ 257 ∷ 264 ∷ 265 ∷ 274 ∷ [])
+    ≡ (6 ∷ 7 ∷ 40 ∷ 41 ∷ 42 ∷ 43 ∷ 45 ∷ 46 ∷ 47 ∷ 48 ∷ 49 ∷ 61 ∷ 258 ∷ 259 ∷ []) ∷ (4 ∷ 8 ∷ 9 ∷ 260 ∷ 262 ∷ 263 ∷ [])
+    ∷ (31 ∷ 257 ∷ 264 ∷ 265 ∷ 274 ∷ [])
     ∷ (44 ∷ []) ∷ (261 ∷ []) ∷ (266 ∷ 267 ∷ 268 ∷ []) ∷ []
 unfolding computing
 formed = refl
@@ -49,14 +50,16 @@ once-only = refl
 -- rule 4, kinds 1 to 6 without flag 4, then with it
 pub barred-without :
     map (λ kind. those (barred (comes kind 0)) 512) (1 ∷ 2 ∷ 3 ∷ 4 ∷ 5 ∷ 6 ∷ [])
-    ≡ (267 ∷ []) ∷ (2 ∷ 3 ∷ 18 ∷ 24 ∷ 25 ∷ 267 ∷ []) ∷ (2 ∷ 3 ∷ 18 ∷ 24 ∷ 25 ∷ []) ∷ (2 ∷ 3 ∷ 18 ∷ 24 ∷ listed3gpp) ∷ (2 ∷ 3 ∷ 18 ∷ 24 ∷ listed3gpp)
+    ≡ (267 ∷ []) ∷ (2 ∷ 3 ∷ 18 ∷ 24 ∷ 25 ∷ 267 ∷ []) ∷ (2 ∷ 3 ∷ 18 ∷ 24 ∷ 25 ∷ [])
+    ∷ (2 ∷ 3 ∷ 18 ∷ 24 ∷ listed3gpp) ∷ (2 ∷ 3 ∷ 18 ∷ 24 ∷ listed3gpp)
     ∷ (2 ∷ 3 ∷ 18 ∷ 24 ∷ 25 ∷ 267 ∷ []) ∷ []
 unfolding computing
 barred-without = refl
 
 pub barred-with :
     map (λ kind. those (barred (comes kind 4)) 512) (1 ∷ 2 ∷ 3 ∷ 4 ∷ 5 ∷ 6 ∷ [])
-    ≡ (267 ∷ []) ∷ (2 ∷ 3 ∷ 18 ∷ 24 ∷ 267 ∷ []) ∷ (2 ∷ 3 ∷ 18 ∷ 24 ∷ []) ∷ (2 ∷ 3 ∷ 18 ∷ 24 ∷ listed3gpp) ∷ (2 ∷ 3 ∷ 18 ∷ 24 ∷ listed3gpp)
+    ≡ (267 ∷ []) ∷ (2 ∷ 3 ∷ 18 ∷ 24 ∷ 267 ∷ []) ∷ (2 ∷ 3 ∷ 18 ∷ 24 ∷ [])
+    ∷ (2 ∷ 3 ∷ 18 ∷ 24 ∷ listed3gpp) ∷ (2 ∷ 3 ∷ 18 ∷ 24 ∷ listed3gpp)
     ∷ (2 ∷ 3 ∷ 18 ∷ 24 ∷ 267 ∷ []) ∷ []
 unfolding computing
 barred-with = refl

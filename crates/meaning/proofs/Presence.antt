@@ -2,28 +2,16 @@
 use mathlib.Core.Path.{_≡_, refl}
 use mathlib.Core.Bool.{Bool, true, false, not, _&&_, _||_, Bool·beq}
 use mathlib.Core.List.{[], _∷_}
-use Prim.Native.Nat.{ℕ, zero, suc, _<_}
+use Prim.Native.Nat.{ℕ, _<_}
 use native.Mathlib.Omega.{arith}
-use native.Mathlib.Decide.{ℕ-discrete}
 use lib.Dec.{T, eqb, leb, leb→le}
 use Rattle.meaning.specs.Octets.{isIn}
 use Rattle.meaning.specs.Jobs.{isKind, Context, comes}
 use Rattle.meaning.specs.Presence.{neverHere, asksClass, notPermitted, mandatory, withPap, withChap, withClass, conditional}
 use Rattle.meaning.specs.Codes.{code, codeBars, codeDemands, codeWants}
-use Rattle.meaning.proofs.Tests.{parts}
+use Rattle.meaning.proofs.Tests.{parts, below, below-at}
 
 -- ---- Two lines that a computed test finds the same at every kind and number
-
--- the test passes at each number below k
-abbrev below : (k : ℕ) → (ℕ → Bool) → Bool
-below zero p = true
-below (suc k) p = p k && below k p
-
-below-at : (k : ℕ) (p : ℕ → Bool) → T (below k p) → (n : ℕ) → n < k → T (p n)
-below-at zero p t n h = absurd (omega arith)
-below-at (suc k) p t n h =
-    let b = parts (p k) (below k p) t in
-    elim (ℕ-discrete n k) [ yes e ↦ rw e (b .0) | no f ↦ below-at k p (b .1) n (omega arith) ]
 
 same : (a b : Bool) → T (Bool·beq a b) → a ≡ b
 same true true t = refl

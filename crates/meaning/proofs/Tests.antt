@@ -3,7 +3,9 @@ use mathlib.Core.Path.{_≡_, refl, sym, ap₂, subst}
 use mathlib.Core.Logic.{_⊎_, inl, inr, ⊎-elim}
 use mathlib.Core.Bool.{Bool, true, false, _&&_, _||_}
 use mathlib.Core.List.{List, [], _∷_}
-use Prim.Native.Nat.{ℕ}
+use Prim.Native.Nat.{ℕ, zero, suc, _<_}
+use native.Mathlib.Omega.{arith}
+use native.Mathlib.Decide.{ℕ-discrete}
 use lib.Dec.{T, eqb, eqb→eq, eqb-refl}
 use Rattle.meaning.specs.Octets.{isIn, all, same}
 use Rattle.meaning.specs.Breaches.{Among}
@@ -76,3 +78,14 @@ all-at p (x ∷ l) t n (inr m) = all-at p l (parts (p x) (all p l) t .1) n m
 -- one of l is one of m, where a test finds each of l in m
 pub in-within : (n : ℕ) (l m : List ℕ) → T (all (λ x. isIn x m) l) → T (isIn n l) → Among n m
 in-within n l m t u = in-among n m (all-at (λ x. isIn x m) l t n (in-among n l u))
+
+-- the test passes at each number below k
+abbrev pub below : (k : ℕ) → (ℕ → Bool) → Bool
+below zero p = true
+below (suc k) p = p k && below k p
+
+pub below-at : (k : ℕ) (p : ℕ → Bool) → T (below k p) → (n : ℕ) → n < k → T (p n)
+below-at zero p t n h = absurd (omega arith)
+below-at (suc k) p t n h =
+    let b = parts (p k) (below k p) t in
+    elim (ℕ-discrete n k) [ yes e ↦ rw e (b .0) | no f ↦ below-at k p (b .1) n (omega arith) ]

@@ -2,7 +2,7 @@
 use mathlib.Core.Path.{_≡_, refl, _∙_, sym, ap}
 use mathlib.Core.Bool.{Bool, true, false, _&&_}
 use mathlib.Core.List.{List, [], _∷_}
-use Prim.Native.Nat.{ℕ, zero, suc, _+_, _-_, _<_, _≤_}
+use Prim.Native.Nat.{ℕ, zero, suc, _+_, _<_, _≤_}
 use native.Mathlib.Nat.{add-zero, zero-add, add-suc, suc-add, le-of-suc-le-suc, not-suc-le-zero}
 use native.Mathlib.Omega.{arith}
 use lib.Dec.{T, leb}
@@ -32,11 +32,9 @@ row-of-test rule i (suc n) (row ∷ rows) none t (suc k) h =
     ∙ ap (λ (j : ℕ). rowBy (rule j)) (suc-add i k ∙ sym (add-suc i k))
 
 -- The row of a kind is the one before its number.
-pub row-of-kind : (kind : ℕ) (row : List ℕ) → 1 ≤ kind → kind ≤ 6 → row ≡ rowBy (byKind (kind - 1)) → row ≡ rowOf kind
+pub row-of-kind : (kind : ℕ) (row : List ℕ) (k : ℕ) → k < 6 → kind ≡ suc k → row ≡ rowBy (byKind k) → row ≡ rowOf kind
 unfolding rowOf isKind byKind
-row-of-kind kind row low high e =
-    let here : suc (kind - 1) ≡ kind = omega arith in
-    e ∙ ap (λ (k : ℕ). rowBy (code (comes k 0))) here ∙ rw (le-leb 1 kind low, le-leb kind 6 high)
+row-of-kind kind row k low q e = e ∙ rw (q, le-leb 1 (suc k) (omega arith), le-leb (suc k) 6 (omega arith))
 
 -- what is none of the six kinds
 pub no-kind : (kind : ℕ) → (1 ≤ kind → kind ≤ 6 → ⊥) → isKind kind ≡ false

@@ -33,13 +33,17 @@ abbrev μ-loop : tie.MeasureT-loop
 μ-loop area codes seen₀ kind flags list₀ place₀ written₀ seen list place written = length area - place
 
 -- the area holds octets
-octets : (k : tie.After-known-told Inv-search μ-search Inv-loop μ-loop) → Octets (k .before .before .before .before .before .before .before .before .args .area .now)
-octets k = slice-octets (k .before .before .before .before .before .before .before .before .args .area .now) (k .before .before .before .before .before .before .before .shared-slice-known .given)
+octets : (k : tie.After-known-told Inv-search μ-search Inv-loop μ-loop)
+    → Octets (k .before .before .before .before .before .before .before .before .args .area .now)
+octets k =
+    let start = k .before .before .before .before .before .before .before in
+    slice-octets (start .before .args .area .now) (start .shared-slice-known .given)
 
 -- what stands at the place, in the arm of an attribute
 stands : (k : tie.After-known-told Inv-search μ-search Inv-loop μ-loop) →
     (let f = k .before .number .given .0 in
-    Stands (k .before .before .before .before .before .before .before .before .args .area .now) (k .before .before .before .before .loop .place) (f .0) (f .1 .0) (f .1 .1 .0))
+    let o = k .before .before .before .before in
+    Stands (o .before .before .before .before .args .area .now) (o .loop .place) (f .0) (f .1 .0) (f .1 .1 .0))
 stands k = step-attribute _ _ _ (k .before .before .before .step-at .ensures) _ _ _ (k .before .number .given .1)
 
 -- its number is carried
@@ -96,7 +100,8 @@ search-less c =
 search-again : tie.Need-search-again Inv-search μ-search Inv-loop μ-loop
 search-again c =
     let i = c .before .before .before .before .search .inv in
-    (looking-more _ _ _ _ _ (i .0) (c .before .before .before .search-test .taken) _ (c .before .before .carried-at .ensures) (c .if2 .left), i .1)
+    let h = c .before .before .before .search-test .taken in
+    (looking-more _ _ _ _ _ (i .0) h _ (c .before .before .carried-at .ensures) (c .if2 .left), i .1)
 
 element-write-seen : tie.Need-element-write-seen Inv-search μ-search Inv-loop μ-loop
 element-write-seen c = low (here c)
@@ -127,7 +132,8 @@ loop-again c =
     let t = c .before .before .before .before .before in
     let k = here t in
     let told = step-carried _ _ (octets k) _ (k .before .before .before .step-at .ensures) _ _ _ (k .before .number .given .1) in
-    passing-more _ _ _ _ _ _ _ (k .before .before .before .before .loop .inv) _ _ _ told (stands k) (low k) _ _ _ _ (flag t) refl (c .before .before .at-attribute .ensures)
+    passing-more _ _ _ _ _ _ _ (k .before .before .before .before .loop .inv) _ _ _ told (stands k) (low k) _ _ _ _ (flag t) refl
+    (c .before .before .at-attribute .ensures)
 
 enum-known-refusal : tie.Need-enum-known-refusal Inv-search μ-search Inv-loop μ-loop
 enum-known-refusal c = search needs

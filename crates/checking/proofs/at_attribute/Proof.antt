@@ -15,7 +15,8 @@ barred-requires c κs = search needs
 
 returns : tie.Need-returns
 returns c =
-    broken-none _ _ _ _ _ _ _ _ (c .before .before .before .meets .ensures) (c .before .before .offends .ensures _) (c .before .barred .ensures) _ _
+    broken-none _ _ _ _ _ _ _ _ (c .before .before .before .meets .ensures)
+    (c .before .before .offends .ensures _) (c .before .barred .ensures) _ _
     (c .if1 .taken)
 
 put-requires : tie.Need-put-requires
@@ -40,7 +41,8 @@ returns-2 c =
     let second = third .before .before .before .before in
     let first = second .before .before .before .before in
     let tests = first .before .before .before in
-    broken-laid _ _ _ _ _ _ _ _ (tests .before .before .meets .ensures) (tests .before .offends .ensures _) (tests .barred .ensures) _ _ _ _ _ _ _ _ _ _
+    broken-laid _ _ _ _ _ _ _ _ (tests .before .before .meets .ensures)
+    (tests .before .offends .ensures _) (tests .barred .ensures) _ _ _ _ _ _ _ _ _ _
     (first .put .ensures) (second .put2 .ensures) (third .put3 .ensures) (fourth .put4 .ensures)
 
 pub at-attribute-spec : {M : Type 1} → statement M

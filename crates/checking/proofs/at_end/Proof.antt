@@ -33,7 +33,8 @@ returns : tie.Need-returns
 unfolding endBy
 returns c =
     chosen-then _ _ _ _ _ _ _ _ _ refl (c .before .before .before .before .before .before .before .before .before .before .put .ensures)
-    (chosen-both _ _ _ _ _ _ _ _ (c .before .before .before .before .before .before .put-lacking .ensures) (c .before .before .put-wanting .ensures))
+    (chosen-both _ _ _ _ _ _ _ _ (c .before .before .before .before .before .before .put-lacking .ensures)
+    (c .before .before .put-wanting .ensures))
 
 pub at-end-spec : {M : Type 1} → statement M
 at-end-spec =

@@ -31,7 +31,8 @@ is-listed-3gpp-requires c κs = search needs
 
 returns-5 : tie.Need-returns-5
 returns-5 c =
-    barred-late _ _ (c .before .before .before .if1 .left) (c .before .before .if3 .left) _ (c .before .if4 .left) (c .is-listed-3gpp .ensures)
+    barred-late _ _ (c .before .before .before .if1 .left) (c .before .before .if3 .left) _ (c .before .if4 .left)
+    (c .is-listed-3gpp .ensures)
 
 pub barred-spec : {M : Type 1} → statement M
 barred-spec =

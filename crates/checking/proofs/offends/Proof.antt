@@ -14,12 +14,13 @@ returns c flags =
 allowed-requires : tie.Need-allowed-requires
 allowed-requires c κs =
     let p = c .before .before .pre in
-    (p .0, p .1, sym (p .2) ∙ not-false _ (c .if1 .left))
+    (p .0, sym (p .1) ∙ not-false _ (c .if1 .left))
 
 returns-2 : tie.Need-returns-2
 returns-2 c flags =
     let a = c .before .before .before .args in
-    offends-by (comes (a .kind) flags) (a .number) (a .value .now) (a .met) _ (not-false _ (c .before .if1 .left)) (c .allowed .ensures flags)
+    offends-by (comes (a .kind) flags) (a .number) (a .value .now) (a .met) _ (not-false _ (c .before .if1 .left))
+    (c .allowed .ensures flags)
 
 pub offends-spec : {M : Type 1} → statement M
 offends-spec = tie.close (tie.spec returns allowed-requires returns-2)

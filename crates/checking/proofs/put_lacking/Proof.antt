@@ -33,7 +33,8 @@ shared-slice-read-lacks c =
     omega (arith, p .2, low-at 256 demandable tt (c .before .before .before .loop .i) (c .before .before .loop-test .taken))
 
 element-copy-out-lacks : tie.Need-element-copy-out-lacks Inv-loop μ-loop
-element-copy-out-lacks c = omega (arith, low-at 256 demandable tt (c .before .before .before .loop .i) (c .before .before .loop-test .taken))
+element-copy-out-lacks c =
+    omega (arith, low-at 256 demandable tt (c .before .before .before .loop .i) (c .before .before .loop-test .taken))
 
 lacks-requires : tie.Need-lacks-requires Inv-loop μ-loop
 lacks-requires c κs = search needs

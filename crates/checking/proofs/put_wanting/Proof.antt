@@ -11,7 +11,8 @@ use Rattle.checking.proofs.put_wanting.Statement.{statement}
 use Rattle.checking.proofs.put_wanting.Tie as tie
 
 abbrev Inv-loop : tie.InvT-loop
-Inv-loop list₀ at codes seen kind flags place written₀ i₀ list written i = Laying (wantsBy (comes kind flags) codes seen place) wantable list₀ at i written list
+Inv-loop list₀ at codes seen kind flags place written₀ i₀ list written i =
+    Laying (wantsBy (comes kind flags) codes seen place) wantable list₀ at i written list
 
 abbrev μ-loop : tie.MeasureT-loop
 μ-loop list₀ at codes seen kind flags place written₀ i₀ list written i = 6 - i
@@ -50,8 +51,8 @@ loop-less c = search needs
 loop-again : tie.Need-loop-again Inv-loop μ-loop
 loop-again c =
     let k = c .before .before .before .before .before .before in
-    laying-more _ wantable _ _ _ _ _ (k .before .loop .inv) (k .loop-test .taken) _ _ _ (rw (c .before .before .before .before .before .wanted .ensures))
-    (c .before .before .put .ensures)
+    laying-more _ wantable _ _ _ _ _ (k .before .loop .inv) (k .loop-test .taken) _ _ _
+    (rw (c .before .before .before .before .before .wanted .ensures)) (c .before .before .put .ensures)
 
 same-length : tie.Need-same-length Inv-loop μ-loop
 same-length c = laid-kept _ _ _ _ _ (c .before .loop .inv .lays)
