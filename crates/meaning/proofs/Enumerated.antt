@@ -20,6 +20,12 @@ those p (suc k) = those p k ++ put (p k) k []
 abbrev pub listed3gpp : List ℕ
 listed3gpp = 257 ∷ 258 ∷ 259 ∷ 260 ∷ 261 ∷ 262 ∷ 263 ∷ 264 ∷ 265 ∷ 266 ∷ 267 ∷ 268 ∷ 274 ∷ []
 
+-- the plain numbers that have a shape, and the 3GPP ones
+abbrev pub haveShape : List ℕ
+haveShape =
+    (1 ∷ 2 ∷ 3 ∷ 4 ∷ 6 ∷ 7 ∷ 8 ∷ 9 ∷ 18 ∷ 24 ∷ 25 ∷ 30 ∷ 31 ∷ 32 ∷ 40 ∷ 41 ∷ 42 ∷ 43 ∷ 44 ∷ 45 ∷ 46 ∷ 47 ∷ 48 ∷ 49 ∷ 60 ∷ 61 ∷ [])
+    ++ listed3gpp
+
 -- the numbers of forms 2 to 7
 pub formed : map (λ f. those (λ n. eqb (formOf (shapeOf n)) f) 512) (2 ∷ 3 ∷ 4 ∷ 5 ∷ 6 ∷ 7 ∷ []) ≡ (6 ∷ 7 ∷ 40 ∷ 41 ∷ 42 ∷ 43 ∷ 45 ∷ 46 ∷ 47 ∷ 48 ∷ 49 ∷ 61 ∷ 258 ∷ 259 ∷ []) ∷ (4 ∷ 8 ∷ 9 ∷ 260 ∷ 262 ∷ 263 ∷ []) ∷ (31 ∷ 257 ∷ 264 ∷ 265 ∷ 274 ∷ []) ∷ (44 ∷ []) ∷ (261 ∷ []) ∷ (266 ∷ 267 ∷ 268 ∷ []) ∷ []
 unfolding computing

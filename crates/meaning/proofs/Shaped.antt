@@ -1,0 +1,121 @@
+-- Document 01, "Shapes and allowed values", its shapes spelt out: for every carried number the lengths from 0 to 253 at which a value
+-- meets its shape, and for a text the octets that may stand at each place. Assumes nothing.
+use mathlib.Core.Path.{_≡_, refl}
+use mathlib.Core.Bool.{Bool, true, not}
+use mathlib.Core.List.{List, [], _∷_, _++_, map}
+use Prim.Native.Nat.{ℕ, zero, suc, _*_, _-_}
+use lib.ListN.{take, replicate, length}
+use lib.Dec.{leb}
+use Rattle.meaning.specs.Octets.{isIn}
+use Rattle.meaning.specs.Framing.{gpp}
+use Rattle.meaning.specs.Shapes.{shapeOf, meets}
+use Rattle.meaning.proofs.Computing.{computing}
+use Rattle.meaning.proofs.Enumerated.{those, listed3gpp, haveShape}
+
+-- the value meets the shape of the number
+abbrev met : (number : ℕ) → List ℕ → Bool
+met n v = meets (shapeOf n) v
+
+-- the numbers from a to b
+abbrev pub span : ℕ → ℕ → List ℕ
+span a b = those (λ k. leb a k) (suc b)
+
+-- ---- Lengths
+
+-- each of some numbers is met by values of just these lengths, one value to a length
+abbrev MetAt : (value : ℕ → List ℕ) (lengths numbers : List ℕ) → Type 0
+MetAt value lengths l = map (λ n. those (λ k. met n (value k)) 254) l ≡ map (λ n. lengths) l
+
+-- so many octets, whatever they are
+abbrev any : (octet : ℕ → ℕ) (length : ℕ) → List ℕ
+any o zero = []
+any o (suc k) = o k ∷ any o k
+
+-- so many octets of a text that goes on with digits
+abbrev text : List ℕ → (length : ℕ) → List ℕ
+text start k = take k start ++ replicate (k - length start) 0x31
+
+module _ (o : ℕ → ℕ) where
+  -- "four octets": forms 2 and 3
+  pub four-octets : MetAt (any o) (4 ∷ []) (4 ∷ span 6 9 ++ span 40 43 ++ span 45 49 ++ 61 ∷ map gpp (2 ∷ 3 ∷ 4 ∷ 6 ∷ 7 ∷ []))
+  unfolding computing
+  four-octets = refl
+
+  -- "1, 18, 24, 25, 30, 32 at least 1 octet", "60 at least 5"
+  pub at-least : MetAt (any o) (span 1 253) (1 ∷ 18 ∷ 24 ∷ 25 ∷ 30 ∷ 32 ∷ []) × MetAt (any o) (span 5 253) (60 ∷ [])
+  unfolding computing
+  at-least = (refl, refl)
+
+  -- "2 is 16 to 128 octets and a multiple of 16; 3 exactly 17", and 3GPP 11 "any one octet"
+  pub exact : MetAt (any o) (map (λ k. 16 * k) (span 1 8)) (2 ∷ []) × MetAt (any o) (17 ∷ []) (3 ∷ []) × MetAt (any o) (1 ∷ []) (gpp 11 ∷ [])
+  unfolding computing
+  exact = (refl, refl, refl)
+
+-- digits: "31, 1 to 15 digits", IMSI; "5 or 6 digits"; "one hexadecimal digit", "one decimal digit"; "44, 16 hexadecimal digits"
+pub digits-met : MetAt (text []) (span 1 15) (31 ∷ gpp 1 ∷ []) × MetAt (text []) (5 ∷ 6 ∷ []) (gpp 8 ∷ gpp 9 ∷ gpp 18 ∷ [])
+unfolding computing
+digits-met = (refl, refl)
+
+pub hexadecimal-met : MetAt (text []) (1 ∷ []) (gpp 10 ∷ gpp 12 ∷ []) × MetAt (text []) (16 ∷ []) (44 ∷ [])
+unfolding computing
+hexadecimal-met = (refl, refl)
+
+-- "98-", "99-"
+abbrev release98 : List ℕ
+release98 = 0x39 ∷ 0x38 ∷ 0x2D ∷ []
+
+abbrev release99 : List ℕ
+release99 = 0x39 ∷ 0x39 ∷ 0x2D ∷ []
+
+-- "98-" and 6 hexadecimal digits, "99-" and 22
+pub qos-met : MetAt (text release98) (9 ∷ []) (gpp 5 ∷ []) × MetAt (text release99) (25 ∷ []) (gpp 5 ∷ [])
+unfolding computing
+qos-met = (refl, refl)
+
+-- the numbers that have no shape
+abbrev shapeless : List ℕ
+shapeless = those (λ n. not (isIn n haveShape)) 512
+
+-- "Any other number has no shape": every value will do
+pub shapeless-met : (v : List ℕ) → map (λ n. met n v) shapeless ≡ replicate 473 true
+unfolding computing
+shapeless-met v = refl
+
+-- ---- The octets of a text
+
+-- the octets that may stand at each place of a value of a number, after those before it
+abbrev fits : (number : ℕ) (before value : List ℕ) → List (List ℕ)
+fits n b [] = []
+fits n b (y ∷ v) = those (λ x. met n (b ++ x ∷ v)) 256 ∷ fits n (b ++ y ∷ []) v
+
+-- "Text is ASCII": 0 to 9
+abbrev ten : List ℕ
+ten = span 0x30 0x39
+
+-- "hexadecimal letters are upper case only": 0 to 9, A to F
+abbrev sixteen : List ℕ
+sixteen = ten ++ span 0x41 0x46
+
+pub digits-fit : map (λ n. fits n [] (text [] 15)) (31 ∷ gpp 1 ∷ []) ≡ replicate 2 (replicate 15 ten)
+unfolding computing
+digits-fit = refl
+
+pub codes-fit : map (λ n. fits n [] (text [] 6)) (gpp 8 ∷ gpp 9 ∷ gpp 18 ∷ []) ≡ replicate 3 (replicate 6 ten)
+unfolding computing
+codes-fit = refl
+
+pub one-digit-fits :
+    map (λ n. fits n [] (text [] 1)) (31 ∷ gpp 1 ∷ gpp 10 ∷ gpp 12 ∷ []) ≡ map (λ l. l ∷ []) (ten ∷ ten ∷ sixteen ∷ ten ∷ [])
+unfolding computing
+one-digit-fits = refl
+
+pub hexadecimal-fits : fits 44 [] (text [] 16) ≡ replicate 16 sixteen
+unfolding computing
+hexadecimal-fits = refl
+
+-- the octets of a release's two digits and a dash, each by itself, then hexadecimal digits
+pub qos-fits :
+    map (λ l. fits (gpp 5) [] l) (text release98 9 ∷ text release99 25 ∷ [])
+    ≡ (map (λ x. x ∷ []) release98 ++ replicate 6 sixteen) ∷ (map (λ x. x ∷ []) release99 ++ replicate 22 sixteen) ∷ []
+unfolding computing
+qos-fits = refl
