@@ -10,8 +10,7 @@ use Rattle.meaning.specs.Framing.{gpp, Attribute}
 use Rattle.meaning.specs.Shapes.{shapeOf, meets, allowed}
 use Rattle.meaning.specs.Breaches.{entry, misses, offends, asksPdpType, chosen, atEnd}
 use Rattle.meaning.proofs.Computing.{computing}
-use Rattle.meaning.proofs.Enumerated.{those}
-use Rattle.meaning.proofs.Shaped.{span}
+use Rattle.meaning.proofs.Enumerated.{those, span, kinds, flagNumbers}
 
 -- the value is allowed for the number
 abbrev may : (kind number : ℕ) → List ℕ → Bool
@@ -20,10 +19,6 @@ may kind n v = allowed kind n v
 -- a number of four octets is allowed
 abbrev fit : (kind number value : ℕ) → Bool
 fit kind n x = may kind n (octetsOf 4 x)
-
--- kinds 1 to 6
-abbrev kinds : List ℕ
-kinds = span 1 6
 
 -- ---- Allowed values
 
@@ -48,12 +43,13 @@ upper kind n l = those (λ h. not (all (λ p. all (λ x. not (fit kind n (h * 25
 
 -- all four octets count: 0 alone may stand above an allowed value
 pub upper-zero : (kind : ℕ) →
-    upper kind 6 (2 ∷ []) ∷ upper kind 7 (7 ∷ []) ∷ upper kind 45 (1 ∷ 2 ∷ []) ∷ upper kind 49 (span 1 18) ∷ upper kind (gpp 3) (0 ∷ []) ∷ []
-    ≡ replicate 5 (0 ∷ [])
+    upper kind 6 (2 ∷ []) ∷ upper kind 7 (7 ∷ []) ∷ upper kind 45 (1 ∷ 2 ∷ []) ∷ upper kind 49 (1 ∷ 18 ∷ []) ∷ upper kind (gpp 3) (0 ∷ [])
+    ∷ [] ≡ replicate 5 (0 ∷ [])
 unfolding computing
 upper-zero kind = refl
 
-pub upper-zero-status : map (λ kind. upper kind 40 (1 ∷ 2 ∷ 7 ∷ 8 ∷ 3 ∷ [])) (span 2 6) ≡ replicate 5 (0 ∷ [])
+pub upper-zero-status :
+    upper 2 40 (1 ∷ []) ∷ upper 3 40 (2 ∷ []) ∷ upper 4 40 (7 ∷ []) ∷ upper 5 40 (8 ∷ []) ∷ upper 6 40 (3 ∷ []) ∷ [] ≡ replicate 5 (0 ∷ [])
 unfolding computing
 upper-zero-status = refl
 
@@ -118,9 +114,9 @@ pub named : map (λ kind. late kind 0 (4 ∷ []) ++ late kind 0 (32 ∷ [])) kin
 unfolding computing
 named = refl
 
--- rule 7, "Kind 1: 2 with flag 1; 3 and 60, each, with flag 2. Kind 2: 25 with flag 4": flags 0, 1, 2, 4, 5, 6
+-- rule 7, "Kind 1: 2 with flag 1; 3 and 60, each, with flag 2. Kind 2: 25 with flag 4"
 pub flagged :
-    map (λ kind. map (λ flags. late kind flags (4 ∷ [])) (0 ∷ 1 ∷ 2 ∷ 4 ∷ 5 ∷ 6 ∷ [])) kinds
+    map (λ kind. map (λ flags. late kind flags (4 ∷ [])) flagNumbers) kinds
     ≡ ([] ∷ (entry 9 7 2 ∷ []) ∷ (entry 9 7 3 ∷ entry 9 7 60 ∷ []) ∷ [] ∷ (entry 9 7 2 ∷ []) ∷ (entry 9 7 3 ∷ entry 9 7 60 ∷ []) ∷ [])
     ∷ ([] ∷ [] ∷ [] ∷ replicate 3 (entry 9 7 25 ∷ [])) ∷ replicate 4 (replicate 6 [])
 unfolding computing

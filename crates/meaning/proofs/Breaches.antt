@@ -45,7 +45,7 @@ module _ (n : ℕ) (l : List Attribute) where
 
 -- ---- The order of the entries
 
-name-low : (n : ℕ) → n < 512 → typeOf n * 256 + subOf n < 65536
+pub name-low : (n : ℕ) → n < 512 → typeOf n * 256 + subOf n < 65536
 name-low n h = go (ltb n 256) refl
   where
     go : (b : Bool) → ltb n 256 ≡ b → cond b n 26 * 256 + cond b 0 (n - 256) < 65536

@@ -3,7 +3,7 @@
 use mathlib.Core.Path.{_≡_, refl}
 use mathlib.Core.Bool.{Bool, not}
 use mathlib.Core.List.{List, [], _∷_, _++_, map}
-use Prim.Native.Nat.{ℕ, zero, suc}
+use Prim.Native.Nat.{ℕ, zero, suc, _-_}
 use lib.Dec.{eqb}
 use Rattle.meaning.specs.Shapes.{shapeOf, meets}
 use Rattle.meaning.specs.Sheet.{formOf}
@@ -16,54 +16,83 @@ abbrev pub those : (ℕ → Bool) → (k : ℕ) → List ℕ
 those p zero = []
 those p (suc k) = those p k ++ put (p k) k []
 
+-- so many numbers from a on
+abbrev counted : (a k : ℕ) → List ℕ
+counted a zero = []
+counted a (suc k) = a ∷ counted (suc a) k
+
+-- the numbers from a to b
+abbrev pub span : ℕ → ℕ → List ℕ
+span a b = counted a (suc b - a)
+
+-- kinds 1 to 6
+abbrev pub kinds : List ℕ
+kinds = span 1 6
+
+-- the flags that are allowed
+abbrev pub flagNumbers : List ℕ
+flagNumbers = 0 ∷ 1 ∷ 2 ∷ 4 ∷ 5 ∷ 6 ∷ []
+
 -- 3GPP 1 to 12, 18
 abbrev pub listed3gpp : List ℕ
-listed3gpp = 257 ∷ 258 ∷ 259 ∷ 260 ∷ 261 ∷ 262 ∷ 263 ∷ 264 ∷ 265 ∷ 266 ∷ 267 ∷ 268 ∷ 274 ∷ []
+listed3gpp = span 257 268 ++ 274 ∷ []
 
 -- the plain numbers that have a shape, and the 3GPP ones
 abbrev pub haveShape : List ℕ
-haveShape =
-    (1 ∷ 2 ∷ 3 ∷ 4 ∷ 6 ∷ 7 ∷ 8 ∷ 9 ∷ 18 ∷ 24 ∷ 25 ∷ 30 ∷ 31 ∷ 32 ∷ 40 ∷ 41 ∷ 42 ∷ 43 ∷ 44 ∷ 45 ∷ 46 ∷ 47 ∷ 48 ∷ 49 ∷ 60 ∷ 61 ∷ [])
-    ++ listed3gpp
+haveShape = span 1 4 ++ span 6 9 ++ 18 ∷ 24 ∷ 25 ∷ span 30 32 ++ span 40 49 ++ 60 ∷ 61 ∷ listed3gpp
 
 -- the numbers of forms 2 to 7
-pub formed : map (λ f. those (λ n. eqb (formOf (shapeOf n)) f) 512) (2 ∷ 3 ∷ 4 ∷ 5 ∷ 6 ∷ 7 ∷ []) ≡ (6 ∷ 7 ∷ 40 ∷ 41 ∷ 42 ∷ 43 ∷ 45 ∷ 46 ∷ 47 ∷ 48 ∷ 49 ∷ 61 ∷ 258 ∷ 259 ∷ []) ∷ (4 ∷ 8 ∷ 9 ∷ 260 ∷ 262 ∷ 263 ∷ []) ∷ (31 ∷ 257 ∷ 264 ∷ 265 ∷ 274 ∷ []) ∷ (44 ∷ []) ∷ (261 ∷ []) ∷ (266 ∷ 267 ∷ 268 ∷ []) ∷ []
+pub formed :
+    map (λ f. those (λ n. eqb (formOf (shapeOf n)) f) 512) (span 2 7)
+    ≡ (6 ∷ 7 ∷ span 40 43 ++ span 45 49 ++ 61 ∷ 258 ∷ 259 ∷ []) ∷ (4 ∷ 8 ∷ 9 ∷ 260 ∷ 262 ∷ 263 ∷ []) ∷ (31 ∷ 257 ∷ 264 ∷ 265 ∷ 274 ∷ [])
+    ∷ (44 ∷ []) ∷ (261 ∷ []) ∷ (266 ∷ 267 ∷ 268 ∷ []) ∷ []
 unfolding computing
 formed = refl
 
 -- the numbers that have a shape: an empty value misses each of them
-pub have-shape : those (λ n. not (meets (shapeOf n) [])) 512 ≡ (1 ∷ 2 ∷ 3 ∷ 4 ∷ 6 ∷ 7 ∷ 8 ∷ 9 ∷ 18 ∷ 24 ∷ 25 ∷ 30 ∷ 31 ∷ 32 ∷ 40 ∷ 41 ∷ 42 ∷ 43 ∷ 44 ∷ 45 ∷ 46 ∷ 47 ∷ 48 ∷ 49 ∷ 60 ∷ 61 ∷ []) ++ listed3gpp
+pub have-shape : those (λ n. not (meets (shapeOf n) [])) 512 ≡ haveShape
 unfolding computing
 have-shape = refl
 
 -- rule 3
-pub once-only : those onceOnly 512 ≡ (1 ∷ 2 ∷ 3 ∷ 4 ∷ 6 ∷ 7 ∷ 8 ∷ 9 ∷ 30 ∷ 31 ∷ 32 ∷ 40 ∷ 41 ∷ 42 ∷ 43 ∷ 44 ∷ 45 ∷ 46 ∷ 47 ∷ 48 ∷ 49 ∷ 60 ∷ 61 ∷ []) ++ listed3gpp
+pub once-only : those onceOnly 512 ≡ span 1 4 ++ span 6 9 ++ span 30 32 ++ span 40 49 ++ 60 ∷ 61 ∷ listed3gpp
 unfolding computing
 once-only = refl
 
 -- rule 4, kinds 1 to 6 without flag 4, then with it
-pub barred-without : map (λ kind. those (barred kind 0) 512) (1 ∷ 2 ∷ 3 ∷ 4 ∷ 5 ∷ 6 ∷ []) ≡ (267 ∷ []) ∷ (2 ∷ 3 ∷ 18 ∷ 24 ∷ 25 ∷ 267 ∷ []) ∷ (2 ∷ 3 ∷ 18 ∷ 24 ∷ 25 ∷ []) ∷ (2 ∷ 3 ∷ 18 ∷ 24 ∷ listed3gpp) ∷ (2 ∷ 3 ∷ 18 ∷ 24 ∷ listed3gpp) ∷ (2 ∷ 3 ∷ 18 ∷ 24 ∷ 25 ∷ 267 ∷ []) ∷ []
+pub barred-without :
+    map (λ kind. those (barred kind 0) 512) kinds
+    ≡ (267 ∷ []) ∷ (2 ∷ 3 ∷ 18 ∷ 24 ∷ 25 ∷ 267 ∷ []) ∷ (2 ∷ 3 ∷ 18 ∷ 24 ∷ 25 ∷ [])
+    ∷ (2 ∷ 3 ∷ 18 ∷ 24 ∷ listed3gpp) ∷ (2 ∷ 3 ∷ 18 ∷ 24 ∷ listed3gpp) ∷ (2 ∷ 3 ∷ 18 ∷ 24 ∷ 25 ∷ 267 ∷ []) ∷ []
 unfolding computing
 barred-without = refl
 
-pub barred-with : map (λ kind. those (barred kind 4) 512) (1 ∷ 2 ∷ 3 ∷ 4 ∷ 5 ∷ 6 ∷ []) ≡ (267 ∷ []) ∷ (2 ∷ 3 ∷ 18 ∷ 24 ∷ 267 ∷ []) ∷ (2 ∷ 3 ∷ 18 ∷ 24 ∷ []) ∷ (2 ∷ 3 ∷ 18 ∷ 24 ∷ listed3gpp) ∷ (2 ∷ 3 ∷ 18 ∷ 24 ∷ listed3gpp) ∷ (2 ∷ 3 ∷ 18 ∷ 24 ∷ 267 ∷ []) ∷ []
+pub barred-with :
+    map (λ kind. those (barred kind 4) 512) kinds
+    ≡ (267 ∷ []) ∷ (2 ∷ 3 ∷ 18 ∷ 24 ∷ 267 ∷ []) ∷ (2 ∷ 3 ∷ 18 ∷ 24 ∷ [])
+    ∷ (2 ∷ 3 ∷ 18 ∷ 24 ∷ listed3gpp) ∷ (2 ∷ 3 ∷ 18 ∷ 24 ∷ listed3gpp) ∷ (2 ∷ 3 ∷ 18 ∷ 24 ∷ 267 ∷ []) ∷ []
 unfolding computing
 barred-with = refl
 
 -- rule 6, kinds 1 to 6
-pub must-be-there : map (λ kind. those (mandatory kind) 512) (1 ∷ 2 ∷ 3 ∷ 4 ∷ 5 ∷ 6 ∷ []) ≡ (1 ∷ 30 ∷ []) ∷ (8 ∷ 30 ∷ 40 ∷ 44 ∷ []) ∷ (8 ∷ 30 ∷ 40 ∷ 44 ∷ []) ∷ [] ∷ [] ∷ (8 ∷ 30 ∷ 40 ∷ 44 ∷ []) ∷ []
+pub must-be-there :
+    map (λ kind. those (mandatory kind) 512) kinds
+    ≡ (1 ∷ 30 ∷ []) ∷ (8 ∷ 30 ∷ 40 ∷ 44 ∷ []) ∷ (8 ∷ 30 ∷ 40 ∷ 44 ∷ []) ∷ [] ∷ [] ∷ (8 ∷ 30 ∷ 40 ∷ 44 ∷ []) ∷ []
 unfolding computing
 must-be-there = refl
 
--- rule 7 by flags 0, 1, 2, 4, 5, 6: kind 1, then kind 2, then the others
-pub wanted-in-1 : map (λ flags. those (conditional 1 flags) 512) (0 ∷ 1 ∷ 2 ∷ 4 ∷ 5 ∷ 6 ∷ []) ≡ [] ∷ (2 ∷ []) ∷ (3 ∷ 60 ∷ []) ∷ [] ∷ (2 ∷ []) ∷ (3 ∷ 60 ∷ []) ∷ []
+-- rule 7 by flags: kind 1, then kind 2, then the others
+pub wanted-in-1 :
+    map (λ flags. those (conditional 1 flags) 512) flagNumbers ≡ [] ∷ (2 ∷ []) ∷ (3 ∷ 60 ∷ []) ∷ [] ∷ (2 ∷ []) ∷ (3 ∷ 60 ∷ []) ∷ []
 unfolding computing
 wanted-in-1 = refl
 
-pub wanted-in-2 : map (λ flags. those (conditional 2 flags) 512) (0 ∷ 1 ∷ 2 ∷ 4 ∷ 5 ∷ 6 ∷ []) ≡ [] ∷ [] ∷ [] ∷ (25 ∷ []) ∷ (25 ∷ []) ∷ (25 ∷ []) ∷ []
+pub wanted-in-2 :
+    map (λ flags. those (conditional 2 flags) 512) flagNumbers ≡ [] ∷ [] ∷ [] ∷ (25 ∷ []) ∷ (25 ∷ []) ∷ (25 ∷ []) ∷ []
 unfolding computing
 wanted-in-2 = refl
 
-pub wanted-else : map (λ kind. those (conditional kind 5) 512 ++ those (conditional kind 6) 512) (3 ∷ 4 ∷ 5 ∷ 6 ∷ []) ≡ [] ∷ [] ∷ [] ∷ [] ∷ []
+pub wanted-else :
+    map (λ kind. those (conditional kind 5) 512 ++ those (conditional kind 6) 512) (span 3 6) ≡ [] ∷ [] ∷ [] ∷ [] ∷ []
 unfolding computing
 wanted-else = refl

@@ -4,21 +4,16 @@ use mathlib.Core.Path.{_≡_, refl}
 use mathlib.Core.Bool.{Bool, true, not}
 use mathlib.Core.List.{List, [], _∷_, _++_, map}
 use Prim.Native.Nat.{ℕ, zero, suc, _*_, _-_}
-use lib.ListN.{take, replicate, length}
-use lib.Dec.{leb}
+use lib.ListN.{take, replicate, length, set}
 use Rattle.meaning.specs.Octets.{isIn}
 use Rattle.meaning.specs.Framing.{gpp}
 use Rattle.meaning.specs.Shapes.{shapeOf, meets}
 use Rattle.meaning.proofs.Computing.{computing}
-use Rattle.meaning.proofs.Enumerated.{those, listed3gpp, haveShape}
+use Rattle.meaning.proofs.Enumerated.{those, span, haveShape}
 
 -- the value meets the shape of the number
 abbrev met : (number : ℕ) → List ℕ → Bool
 met n v = meets (shapeOf n) v
-
--- the numbers from a to b
-abbrev pub span : ℕ → ℕ → List ℕ
-span a b = those (λ k. leb a k) (suc b)
 
 -- ---- Lengths
 
@@ -35,24 +30,29 @@ any o (suc k) = o k ∷ any o k
 abbrev text : List ℕ → (length : ℕ) → List ℕ
 text start k = take k start ++ replicate (k - length start) 0x31
 
-module _ (o : ℕ → ℕ) where
-  -- "four octets": forms 2 and 3
-  pub four-octets : MetAt (any o) (4 ∷ []) (4 ∷ span 6 9 ++ span 40 43 ++ span 45 49 ++ 61 ∷ map gpp (2 ∷ 3 ∷ 4 ∷ 6 ∷ 7 ∷ []))
-  unfolding computing
-  four-octets = refl
+-- numbers of one shape: what is said of the first below holds of them all
+pub alike :
+    (map shapeOf (7 ∷ span 40 43 ++ span 45 49 ++ 61 ∷ gpp 2 ∷ gpp 3 ∷ []) ≡ replicate 13 (shapeOf 6))
+    × (map shapeOf (8 ∷ 9 ∷ gpp 4 ∷ gpp 6 ∷ gpp 7 ∷ []) ≡ replicate 5 (shapeOf 4))
+    × (map shapeOf (18 ∷ 24 ∷ 25 ∷ 30 ∷ 32 ∷ []) ≡ replicate 5 (shapeOf 1))
+    × (shapeOf (gpp 1) ≡ shapeOf 31) × (map shapeOf (gpp 9 ∷ gpp 18 ∷ []) ≡ replicate 2 (shapeOf (gpp 8)))
+unfolding computing
+alike = (refl, refl, refl, refl, refl)
 
-  -- "1, 18, 24, 25, 30, 32 at least 1 octet", "60 at least 5"
-  pub at-least : MetAt (any o) (span 1 253) (1 ∷ 18 ∷ 24 ∷ 25 ∷ 30 ∷ 32 ∷ []) × MetAt (any o) (span 5 253) (60 ∷ [])
+module _ (o : ℕ → ℕ) where
+  -- "four octets", forms 2 and 3; "at least 1 octet", "60 at least 5"
+  pub at-least : MetAt (any o) (4 ∷ []) (6 ∷ 4 ∷ []) × MetAt (any o) (span 1 253) (1 ∷ []) × MetAt (any o) (span 5 253) (60 ∷ [])
   unfolding computing
-  at-least = (refl, refl)
+  at-least = (refl, refl, refl)
 
   -- "2 is 16 to 128 octets and a multiple of 16; 3 exactly 17", and 3GPP 11 "any one octet"
-  pub exact : MetAt (any o) (map (λ k. 16 * k) (span 1 8)) (2 ∷ []) × MetAt (any o) (17 ∷ []) (3 ∷ []) × MetAt (any o) (1 ∷ []) (gpp 11 ∷ [])
+  pub exact :
+      MetAt (any o) (map (λ k. 16 * k) (span 1 8)) (2 ∷ []) × MetAt (any o) (17 ∷ []) (3 ∷ []) × MetAt (any o) (1 ∷ []) (gpp 11 ∷ [])
   unfolding computing
   exact = (refl, refl, refl)
 
--- digits: "31, 1 to 15 digits", IMSI; "5 or 6 digits"; "one hexadecimal digit", "one decimal digit"; "44, 16 hexadecimal digits"
-pub digits-met : MetAt (text []) (span 1 15) (31 ∷ gpp 1 ∷ []) × MetAt (text []) (5 ∷ 6 ∷ []) (gpp 8 ∷ gpp 9 ∷ gpp 18 ∷ [])
+-- "31, 1 to 15 digits" and IMSI; "5 or 6 digits"; "one hexadecimal digit", "one decimal digit"; "16 hexadecimal digits"
+pub digits-met : MetAt (text []) (span 1 15) (31 ∷ []) × MetAt (text []) (5 ∷ 6 ∷ []) (gpp 8 ∷ [])
 unfolding computing
 digits-met = (refl, refl)
 
@@ -73,7 +73,7 @@ unfolding computing
 qos-met = (refl, refl)
 
 -- the numbers that have no shape
-abbrev shapeless : List ℕ
+abbrev pub shapeless : List ℕ
 shapeless = those (λ n. not (isIn n haveShape)) 512
 
 -- "Any other number has no shape": every value will do
@@ -83,10 +83,9 @@ shapeless-met v = refl
 
 -- ---- The octets of a text
 
--- the octets that may stand at each place of a value of a number, after those before it
-abbrev fits : (number : ℕ) (before value : List ℕ) → List (List ℕ)
-fits n b [] = []
-fits n b (y ∷ v) = those (λ x. met n (b ++ x ∷ v)) 256 ∷ fits n (b ++ y ∷ []) v
+-- the octets that may stand at some places of a value of a number
+abbrev fits : (number : ℕ) → List ℕ → (places : List ℕ) → List (List ℕ)
+fits n v l = map (λ p. those (λ x. met n (set v p x)) 256) l
 
 -- "Text is ASCII": 0 to 9
 abbrev ten : List ℕ
@@ -96,26 +95,21 @@ ten = span 0x30 0x39
 abbrev sixteen : List ℕ
 sixteen = ten ++ span 0x41 0x46
 
-pub digits-fit : map (λ n. fits n [] (text [] 15)) (31 ∷ gpp 1 ∷ []) ≡ replicate 2 (replicate 15 ten)
+-- the first, the second, the middle and the last digit, or each
+pub digits-fit :
+    (fits 31 (text [] 15) (0 ∷ 1 ∷ 7 ∷ 14 ∷ []) ≡ replicate 4 ten) × (fits 31 (text [] 1) (0 ∷ []) ≡ ten ∷ [])
+    × (fits (gpp 8) (text [] 6) (span 0 5) ≡ replicate 6 ten) × (fits (gpp 12) (text [] 1) (0 ∷ []) ≡ ten ∷ [])
 unfolding computing
-digits-fit = refl
+digits-fit = (refl, refl, refl, refl)
 
-pub codes-fit : map (λ n. fits n [] (text [] 6)) (gpp 8 ∷ gpp 9 ∷ gpp 18 ∷ []) ≡ replicate 3 (replicate 6 ten)
+pub hexadecimal-fits :
+    (fits 44 (text [] 16) (0 ∷ 1 ∷ 8 ∷ 15 ∷ []) ≡ replicate 4 sixteen) × (fits (gpp 10) (text [] 1) (0 ∷ []) ≡ sixteen ∷ [])
 unfolding computing
-codes-fit = refl
-
-pub one-digit-fits :
-    map (λ n. fits n [] (text [] 1)) (31 ∷ gpp 1 ∷ gpp 10 ∷ gpp 12 ∷ []) ≡ map (λ l. l ∷ []) (ten ∷ ten ∷ sixteen ∷ ten ∷ [])
-unfolding computing
-one-digit-fits = refl
-
-pub hexadecimal-fits : fits 44 [] (text [] 16) ≡ replicate 16 sixteen
-unfolding computing
-hexadecimal-fits = refl
+hexadecimal-fits = (refl, refl)
 
 -- the octets of a release's two digits and a dash, each by itself, then hexadecimal digits
 pub qos-fits :
-    map (λ l. fits (gpp 5) [] l) (text release98 9 ∷ text release99 25 ∷ [])
-    ≡ (map (λ x. x ∷ []) release98 ++ replicate 6 sixteen) ∷ (map (λ x. x ∷ []) release99 ++ replicate 22 sixteen) ∷ []
+    (fits (gpp 5) (text release98 9) (span 0 8) ≡ map (λ x. x ∷ []) release98 ++ replicate 6 sixteen)
+    × (fits (gpp 5) (text release99 25) (0 ∷ 1 ∷ 2 ∷ 3 ∷ 4 ∷ 13 ∷ 24 ∷ []) ≡ map (λ x. x ∷ []) release99 ++ replicate 4 sixteen)
 unfolding computing
-qos-fits = refl
+qos-fits = (refl, refl)
