@@ -1,5 +1,5 @@
 -- Document 01, "Shapes and allowed values", its shapes spelt out: for every carried number the lengths from 0 to 253 at which a value
--- meets its shape, and for a text the octets that may stand at each place. Assumes nothing.
+-- meets its shape, for a text the octets that may stand at a place, and what is stored. Assumes nothing.
 use mathlib.Core.Path.{_≡_, refl}
 use mathlib.Core.Bool.{Bool, true, not}
 use mathlib.Core.List.{List, [], _∷_, _++_, map}
@@ -8,12 +8,17 @@ use lib.ListN.{take, replicate, length, set}
 use Rattle.meaning.specs.Octets.{isIn}
 use Rattle.meaning.specs.Framing.{gpp}
 use Rattle.meaning.specs.Shapes.{shapeOf, meets}
+use Rattle.meaning.specs.Sheet.{item}
 use Rattle.meaning.proofs.Computing.{computing}
 use Rattle.meaning.proofs.Enumerated.{those, span, haveShape}
 
 -- the value meets the shape of the number
 abbrev met : (number : ℕ) → List ℕ → Bool
 met n v = meets (shapeOf n) v
+
+-- the item of a number and a value
+abbrev itemised : (number : ℕ) → List ℕ → List ℕ
+itemised n v = item n v
 
 -- ---- Lengths
 
@@ -113,3 +118,32 @@ pub qos-fits :
     × (fits (gpp 5) (text release99 25) (0 ∷ 1 ∷ 2 ∷ 3 ∷ 4 ∷ 13 ∷ 24 ∷ []) ≡ map (λ x. x ∷ []) release99 ++ replicate 4 sixteen)
 unfolding computing
 qos-fits = (refl, refl)
+
+-- ---- What is stored
+
+-- a value that meets no shape stands as it is, "form 0 (plain) or 1 (3GPP)", under its type and sub-attribute number
+pub as-it-stands :
+    map (λ n. itemised n (7 ∷ 7 ∷ [])) (span 0 511)
+    ≡ map (λ t. t ∷ 0 ∷ 0 ∷ 2 ∷ 7 ∷ 7 ∷ []) (span 0 255) ++ map (λ s. 26 ∷ s ∷ 1 ∷ 2 ∷ 7 ∷ 7 ∷ []) (span 0 255)
+unfolding computing
+as-it-stands = refl
+
+-- form 7: "stored 0 to 15", "any one octet as it stands", "stored 0 to 9"
+pub one-octet :
+    (map (λ x. itemised (gpp 10) (x ∷ [])) sixteen ≡ map (λ x. 26 ∷ 10 ∷ 7 ∷ 1 ∷ x ∷ []) (span 0 15))
+    × (map (λ x. itemised (gpp 11) (x ∷ [])) (span 0 255) ≡ map (λ x. 26 ∷ 11 ∷ 7 ∷ 1 ∷ x ∷ []) (span 0 255))
+    × (map (λ x. itemised (gpp 12) (x ∷ [])) ten ≡ map (λ x. 26 ∷ 12 ∷ 7 ∷ 1 ∷ x ∷ []) (span 0 9))
+unfolding computing
+one-octet = (refl, refl, refl)
+
+-- form 4: "two to an octet, first in the high half; an odd last low half is 15"; form 5 and form 6, each digit in its place
+pub packed :
+    (map (λ k. itemised 31 (take k (span 0x31 0x39))) (1 ∷ 2 ∷ 8 ∷ 9 ∷ [])
+    ≡ (31 ∷ 0 ∷ 4 ∷ 1 ∷ 0x1F ∷ []) ∷ (31 ∷ 0 ∷ 4 ∷ 2 ∷ 0x12 ∷ []) ∷ (31 ∷ 0 ∷ 4 ∷ 8 ∷ 0x12 ∷ 0x34 ∷ 0x56 ∷ 0x78 ∷ [])
+    ∷ (31 ∷ 0 ∷ 4 ∷ 9 ∷ 0x12 ∷ 0x34 ∷ 0x56 ∷ 0x78 ∷ 0x9F ∷ []) ∷ [])
+    × (itemised 44 sixteen ≡ 44 ∷ 0 ∷ 5 ∷ 8 ∷ 0x01 ∷ 0x23 ∷ 0x45 ∷ 0x67 ∷ 0x89 ∷ 0xAB ∷ 0xCD ∷ 0xEF ∷ [])
+    × (itemised (gpp 5) (release98 ++ span 0x41 0x46) ≡ 26 ∷ 5 ∷ 6 ∷ 4 ∷ 98 ∷ 0xAB ∷ 0xCD ∷ 0xEF ∷ [])
+    × (itemised (gpp 5) (release99 ++ sixteen ++ span 0x31 0x36)
+    ≡ 26 ∷ 5 ∷ 6 ∷ 12 ∷ 99 ∷ 0x01 ∷ 0x23 ∷ 0x45 ∷ 0x67 ∷ 0x89 ∷ 0xAB ∷ 0xCD ∷ 0xEF ∷ 0x12 ∷ 0x34 ∷ 0x56 ∷ [])
+unfolding computing
+packed = (refl, refl, refl, refl)
