@@ -1,5 +1,5 @@
 -- Document 01, "Framing", spelt out: what stands at the front of some octets, for every type, every length, every m and every octet of
--- the vendor id; and the kinds and flags that are allowed. Assumes nothing.
+-- the vendor id; the kinds and flags that are allowed, and the two orders of the refusal book. Assumes nothing.
 use mathlib.Core.Path.{_≡_, refl}
 use mathlib.Core.Bool.{not}
 use mathlib.Core.List.{List, [], _∷_, _++_, map}
@@ -8,6 +8,8 @@ use lib.ListN.{replicate, set}
 use Rattle.meaning.specs.Octets.{same}
 use Rattle.meaning.specs.Jobs.{isKind, areFlags}
 use Rattle.meaning.specs.Framing.{gpp, headLength, Attribute, Found, attribute, refused, nothing, found, walk, attributes}
+use Rattle.meaning.specs.Sheet.{mark}
+use Rattle.meaning.specs.Answers.{refused, readAnswer, checkAnswer, writeAnswer}
 use Rattle.meaning.specs.Refusals.{refusal, areaRefusal}
 use Rattle.meaning.proofs.Computing.{computing}
 use Rattle.meaning.proofs.Enumerated.{those, span, kinds, flagNumbers}
@@ -91,3 +93,24 @@ longest = (refl, refl)
 pub heads : map headLength (span 0 511) ≡ replicate 256 2 ++ replicate 256 8
 unfolding headLength
 heads = refl
+
+-- ---- The book's two orders: each refusal where later ones would apply too, with no room at all
+
+-- "1, 2, 3, then the first attribute from the left that fails, tested 4 to 8 in that order, then 9 (read) or 10 (check)"
+pub area-order :
+    (readAnswer 0 3 (replicate 4077 0) 0 ≡ refused 1 0) × (readAnswer 1 3 (replicate 4077 0) 0 ≡ refused 2 0)
+    × (readAnswer 1 0 (replicate 4077 0) 0 ≡ refused 3 4077) × (readAnswer 1 0 (0 ∷ 2 ∷ 26 ∷ 1 ∷ 4 ∷ []) 0 ≡ refused 5 2)
+    × (readAnswer 1 0 (26 ∷ 6 ∷ 0 ∷ 0 ∷ []) 0 ≡ refused 6 0) × (readAnswer 1 0 (26 ∷ 6 ∷ 0 ∷ 0 ∷ 40 ∷ 175 ∷ 4 ∷ []) 0 ≡ refused 7 0)
+    × (readAnswer 1 0 [] 0 ≡ refused 9 9) × (checkAnswer 1 0 (4 ∷ []) 0 ≡ refused 4 0) × (checkAnswer 1 0 [] 0 ≡ refused 10 3)
+unfolding computing
+area-order = (refl, refl, refl, refl, refl, refl, refl, refl, refl)
+
+-- "20, 21, items from the left (22 before 23 on one item), remaining octets, 24, 25"
+pub sheet-order :
+    (writeAnswer (0 ∷ mark ++ 7 ∷ 3 ∷ 0 ∷ 1 ∷ []) 0 ≡ refused 20 0) × (writeAnswer (mark ++ 7 ∷ 0 ∷ 0 ∷ 1 ∷ []) 0 ≡ refused 21 0)
+    × (writeAnswer (mark ++ 1 ∷ 0 ∷ 0 ∷ 2 ∷ 0 ∷ 0 ∷ 0 ∷ 0 ∷ 0 ∷ 0 ∷ 9 ∷ 1 ∷ []) 0 ≡ refused 22 13)
+    × (writeAnswer (mark ++ 1 ∷ 0 ∷ 0 ∷ 2 ∷ 0 ∷ 0 ∷ 0 ∷ 0 ∷ 0 ∷ 0 ∷ 9 ∷ 0 ∷ 0 ∷ []) 0 ≡ refused 23 13)
+    × (writeAnswer (mark ++ 1 ∷ 0 ∷ 0 ∷ 1 ∷ 0 ∷ 0 ∷ 0 ∷ 0 ∷ 0 ∷ []) 0 ≡ refused 22 13)
+    × (writeAnswer (mark ++ 1 ∷ 0 ∷ 0 ∷ 1 ∷ 0 ∷ 0 ∷ 0 ∷ 0 ∷ []) 0 ≡ refused 25 2)
+unfolding computing
+sheet-order = (refl, refl, refl, refl, refl, refl)
