@@ -12,7 +12,7 @@ use Rattle.meaning.specs.Breaches.{entry, misses, offends, asksPdpType, 
 use Rattle.meaning.proofs.Computing.{computing}
 use Rattle.meaning.proofs.Enumerated.{those, span, kinds, flagNumbers}
 
--- the value is allowed for the number
+-- the value is allowed for the number, in a kind
 abbrev may : (kind number : ℕ) → List ℕ → Bool
 may kind n v = allowed kind n v
 

@@ -40,8 +40,8 @@ each-can n place t = all-at (λ n. not (meets (shapeOf n) [])) haveShape tt n (i
 abbrev Known : ℕ → Type 0
 Known n = (n < 512) × (n ≡ 26 → ⊥)
 
-known : (n : ℕ) → T (canBreak n) → Known n
-known n t =
+can-known : (n : ℕ) → T (canBreak n) → Known n
+can-known n t =
     let b = parts (ltb n 512) (not (eqb n 26)) (all-at (λ n. ltb n 512 && not (eqb n 26)) haveShape tt n (in-among n haveShape t)) in
     (ltb→lt n 512 (b .0), λ e. rw e at (b .1))
 
@@ -63,8 +63,8 @@ pub one-breach : (p r n p' r' n' : ℕ) →
     r ≤ 7 → r' ≤ 7 → T (canBreak n) → T (canBreak n') → entry p r n ≡ entry p' r' n' → (p ≡ p') × (r ≡ r') × (n ≡ n')
 unfolding entry
 one-breach p r n p' r' n' h h' t t' e =
-    let k = known n t in
-    let k' = known n' t' in
+    let k = can-known n t in
+    let k' = can-known n' t' in
     let low = name-low n (k .0) in
     let low' = name-low n' (k' .0) in
     let u : p ≡ p' = omega arith in

@@ -16,6 +16,16 @@ abbrev pub those : (ℕ → Bool) → (k : ℕ) → List ℕ
 those p zero = []
 those p (suc k) = those p k ++ put (p k) k []
 
+-- rules 4, 6 and 7 of a kind, flags and a number
+abbrev bars : (kind flags number : ℕ) → Bool
+bars kind flags n = barred kind flags n
+
+abbrev demands : (kind number : ℕ) → Bool
+demands kind n = mandatory kind n
+
+abbrev wants : (kind flags number : ℕ) → Bool
+wants kind flags n = conditional kind flags n
+
 -- so many numbers from a on
 abbrev counted : (a k : ℕ) → List ℕ
 counted a zero = []
@@ -61,14 +71,14 @@ once-only = refl
 
 -- rule 4, kinds 1 to 6 without flag 4, then with it
 pub barred-without :
-    map (λ kind. those (barred kind 0) 512) kinds
+    map (λ kind. those (bars kind 0) 512) kinds
     ≡ (267 ∷ []) ∷ (2 ∷ 3 ∷ 18 ∷ 24 ∷ 25 ∷ 267 ∷ []) ∷ (2 ∷ 3 ∷ 18 ∷ 24 ∷ 25 ∷ [])
     ∷ (2 ∷ 3 ∷ 18 ∷ 24 ∷ listed3gpp) ∷ (2 ∷ 3 ∷ 18 ∷ 24 ∷ listed3gpp) ∷ (2 ∷ 3 ∷ 18 ∷ 24 ∷ 25 ∷ 267 ∷ []) ∷ []
 unfolding computing
 barred-without = refl
 
 pub barred-with :
-    map (λ kind. those (barred kind 4) 512) kinds
+    map (λ kind. those (bars kind 4) 512) kinds
     ≡ (267 ∷ []) ∷ (2 ∷ 3 ∷ 18 ∷ 24 ∷ 267 ∷ []) ∷ (2 ∷ 3 ∷ 18 ∷ 24 ∷ [])
     ∷ (2 ∷ 3 ∷ 18 ∷ 24 ∷ listed3gpp) ∷ (2 ∷ 3 ∷ 18 ∷ 24 ∷ listed3gpp) ∷ (2 ∷ 3 ∷ 18 ∷ 24 ∷ 267 ∷ []) ∷ []
 unfolding computing
@@ -76,23 +86,23 @@ barred-with = refl
 
 -- rule 6, kinds 1 to 6
 pub must-be-there :
-    map (λ kind. those (mandatory kind) 512) kinds
+    map (λ kind. those (demands kind) 512) kinds
     ≡ (1 ∷ 30 ∷ []) ∷ (8 ∷ 30 ∷ 40 ∷ 44 ∷ []) ∷ (8 ∷ 30 ∷ 40 ∷ 44 ∷ []) ∷ [] ∷ [] ∷ (8 ∷ 30 ∷ 40 ∷ 44 ∷ []) ∷ []
 unfolding computing
 must-be-there = refl
 
 -- rule 7 by flags: kind 1, then kind 2, then the others
 pub wanted-in-1 :
-    map (λ flags. those (conditional 1 flags) 512) flagNumbers ≡ [] ∷ (2 ∷ []) ∷ (3 ∷ 60 ∷ []) ∷ [] ∷ (2 ∷ []) ∷ (3 ∷ 60 ∷ []) ∷ []
+    map (λ flags. those (wants 1 flags) 512) flagNumbers ≡ [] ∷ (2 ∷ []) ∷ (3 ∷ 60 ∷ []) ∷ [] ∷ (2 ∷ []) ∷ (3 ∷ 60 ∷ []) ∷ []
 unfolding computing
 wanted-in-1 = refl
 
 pub wanted-in-2 :
-    map (λ flags. those (conditional 2 flags) 512) flagNumbers ≡ [] ∷ [] ∷ [] ∷ (25 ∷ []) ∷ (25 ∷ []) ∷ (25 ∷ []) ∷ []
+    map (λ flags. those (wants 2 flags) 512) flagNumbers ≡ [] ∷ [] ∷ [] ∷ (25 ∷ []) ∷ (25 ∷ []) ∷ (25 ∷ []) ∷ []
 unfolding computing
 wanted-in-2 = refl
 
 pub wanted-else :
-    map (λ kind. those (conditional kind 5) 512 ++ those (conditional kind 6) 512) (span 3 6) ≡ [] ∷ [] ∷ [] ∷ [] ∷ []
+    map (λ kind. those (wants kind 5) 512 ++ those (wants kind 6) 512) (span 3 6) ≡ [] ∷ [] ∷ [] ∷ [] ∷ []
 unfolding computing
 wanted-else = refl

@@ -9,7 +9,7 @@ use Rattle.meaning.specs.Octets.{same}
 use Rattle.meaning.specs.Jobs.{isKind, areFlags}
 use Rattle.meaning.specs.Framing.{gpp, headLength, Attribute, Found, attribute, refused, nothing, found, walk, attributes}
 use Rattle.meaning.specs.Sheet.{mark}
-use Rattle.meaning.specs.Answers.{refused, readAnswer, checkAnswer, writeAnswer}
+use Rattle.meaning.specs.Answers.{Answer, refused, Written, readAnswer, checkAnswer, writeAnswer}
 use Rattle.meaning.specs.Refusals.{refusal, areaRefusal}
 use Rattle.meaning.proofs.Computing.{computing}
 use Rattle.meaning.proofs.Enumerated.{those, span, kinds, flagNumbers}
@@ -75,6 +75,7 @@ carried = refl
 
 -- ---- The walk: place, number and value of each attribute, in area order
 
+-- an attribute
 abbrev at : (place number : ℕ) → List ℕ → Attribute
 at p n v = record { place = p; number = n; value = v }
 
@@ -96,21 +97,35 @@ heads = refl
 
 -- ---- The book's two orders: each refusal where later ones would apply too, with no room at all
 
+-- what each job answers
+abbrev reads : (kind flags : ℕ) → List ℕ → Answer (List ℕ)
+reads kind flags area = readAnswer kind flags area 0
+
+abbrev checks : (kind flags : ℕ) → List ℕ → Answer (List ℕ)
+checks kind flags area = checkAnswer kind flags area 0
+
+abbrev writes : List ℕ → Answer Written
+writes sheet = writeAnswer sheet 0
+
+-- a sheet's first five octets
+abbrev begun : List ℕ
+begun = mark
+
 -- "1, 2, 3, then the first attribute from the left that fails, tested 4 to 8 in that order, then 9 (read) or 10 (check)"
 pub area-order :
-    (readAnswer 0 3 (replicate 4077 0) 0 ≡ refused 1 0) × (readAnswer 1 3 (replicate 4077 0) 0 ≡ refused 2 0)
-    × (readAnswer 1 0 (replicate 4077 0) 0 ≡ refused 3 4077) × (readAnswer 1 0 (0 ∷ 2 ∷ 26 ∷ 1 ∷ 4 ∷ []) 0 ≡ refused 5 2)
-    × (readAnswer 1 0 (26 ∷ 6 ∷ 0 ∷ 0 ∷ []) 0 ≡ refused 6 0) × (readAnswer 1 0 (26 ∷ 6 ∷ 0 ∷ 0 ∷ 40 ∷ 175 ∷ 4 ∷ []) 0 ≡ refused 7 0)
-    × (readAnswer 1 0 [] 0 ≡ refused 9 9) × (checkAnswer 1 0 (4 ∷ []) 0 ≡ refused 4 0) × (checkAnswer 1 0 [] 0 ≡ refused 10 3)
+    (reads 0 3 (replicate 4077 0) ≡ refused 1 0) × (reads 1 3 (replicate 4077 0) ≡ refused 2 0)
+    × (reads 1 0 (replicate 4077 0) ≡ refused 3 4077) × (reads 1 0 (0 ∷ 2 ∷ 26 ∷ 1 ∷ 4 ∷ []) ≡ refused 5 2)
+    × (reads 1 0 (26 ∷ 6 ∷ 0 ∷ 0 ∷ []) ≡ refused 6 0) × (reads 1 0 (26 ∷ 6 ∷ 0 ∷ 0 ∷ 40 ∷ 175 ∷ 4 ∷ []) ≡ refused 7 0)
+    × (reads 1 0 [] ≡ refused 9 9) × (checks 1 0 (4 ∷ []) ≡ refused 4 0) × (checks 1 0 [] ≡ refused 10 3)
 unfolding computing
 area-order = (refl, refl, refl, refl, refl, refl, refl, refl, refl)
 
 -- "20, 21, items from the left (22 before 23 on one item), remaining octets, 24, 25"
 pub sheet-order :
-    (writeAnswer (0 ∷ mark ++ 7 ∷ 3 ∷ 0 ∷ 1 ∷ []) 0 ≡ refused 20 0) × (writeAnswer (mark ++ 7 ∷ 0 ∷ 0 ∷ 1 ∷ []) 0 ≡ refused 21 0)
-    × (writeAnswer (mark ++ 1 ∷ 0 ∷ 0 ∷ 2 ∷ 0 ∷ 0 ∷ 0 ∷ 0 ∷ 0 ∷ 0 ∷ 9 ∷ 1 ∷ []) 0 ≡ refused 22 13)
-    × (writeAnswer (mark ++ 1 ∷ 0 ∷ 0 ∷ 2 ∷ 0 ∷ 0 ∷ 0 ∷ 0 ∷ 0 ∷ 0 ∷ 9 ∷ 0 ∷ 0 ∷ []) 0 ≡ refused 23 13)
-    × (writeAnswer (mark ++ 1 ∷ 0 ∷ 0 ∷ 1 ∷ 0 ∷ 0 ∷ 0 ∷ 0 ∷ 0 ∷ []) 0 ≡ refused 22 13)
-    × (writeAnswer (mark ++ 1 ∷ 0 ∷ 0 ∷ 1 ∷ 0 ∷ 0 ∷ 0 ∷ 0 ∷ []) 0 ≡ refused 25 2)
+    (writes (0 ∷ begun ++ 7 ∷ 3 ∷ 0 ∷ 1 ∷ []) ≡ refused 20 0) × (writes (begun ++ 7 ∷ 0 ∷ 0 ∷ 1 ∷ []) ≡ refused 21 0)
+    × (writes (begun ++ 1 ∷ 0 ∷ 0 ∷ 2 ∷ 0 ∷ 0 ∷ 0 ∷ 0 ∷ 0 ∷ 0 ∷ 9 ∷ 1 ∷ []) ≡ refused 22 13)
+    × (writes (begun ++ 1 ∷ 0 ∷ 0 ∷ 2 ∷ 0 ∷ 0 ∷ 0 ∷ 0 ∷ 0 ∷ 0 ∷ 9 ∷ 0 ∷ 0 ∷ []) ≡ refused 23 13)
+    × (writes (begun ++ 1 ∷ 0 ∷ 0 ∷ 1 ∷ 0 ∷ 0 ∷ 0 ∷ 0 ∷ 0 ∷ []) ≡ refused 22 13)
+    × (writes (begun ++ 1 ∷ 0 ∷ 0 ∷ 1 ∷ 0 ∷ 0 ∷ 0 ∷ 0 ∷ []) ≡ refused 25 2)
 unfolding computing
 sheet-order = (refl, refl, refl, refl, refl, refl)

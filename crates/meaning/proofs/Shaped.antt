@@ -46,15 +46,15 @@ alike = (refl, refl, refl, refl, refl)
 
 module _ (o : ℕ → ℕ) where
   -- "four octets", forms 2 and 3; "at least 1 octet", "60 at least 5"
-  pub at-least : MetAt (any o) (4 ∷ []) (6 ∷ 4 ∷ []) × MetAt (any o) (span 1 253) (1 ∷ []) × MetAt (any o) (span 5 253) (60 ∷ [])
+  pub octets-met : MetAt (any o) (4 ∷ []) (6 ∷ 4 ∷ []) × MetAt (any o) (span 1 253) (1 ∷ []) × MetAt (any o) (span 5 253) (60 ∷ [])
   unfolding computing
-  at-least = (refl, refl, refl)
+  octets-met = (refl, refl, refl)
 
   -- "2 is 16 to 128 octets and a multiple of 16; 3 exactly 17", and 3GPP 11 "any one octet"
-  pub exact :
+  pub exact-met :
       MetAt (any o) (map (λ k. 16 * k) (span 1 8)) (2 ∷ []) × MetAt (any o) (17 ∷ []) (3 ∷ []) × MetAt (any o) (1 ∷ []) (gpp 11 ∷ [])
   unfolding computing
-  exact = (refl, refl, refl)
+  exact-met = (refl, refl, refl)
 
 -- "31, 1 to 15 digits" and IMSI; "5 or 6 digits"; "one hexadecimal digit", "one decimal digit"; "16 hexadecimal digits"
 pub digits-met : MetAt (text []) (span 1 15) (31 ∷ []) × MetAt (text []) (5 ∷ 6 ∷ []) (gpp 8 ∷ [])
