@@ -54,8 +54,8 @@ haveShape = span 1 4 ++ span 6 9 ++ 18 ∷ 24 ∷ 25 ∷ span 30 32 ++ span 40 4
 -- the numbers of forms 1 to 7: no shape has form 1
 pub formed :
     map (λ f. those (λ n. eqb (formOf (shapeOf n)) f) 512) (span 1 7)
-    ≡ [] ∷ (6 ∷ 7 ∷ span 40 43 ++ span 45 49 ++ 61 ∷ 258 ∷ 259 ∷ []) ∷ (4 ∷ 8 ∷ 9 ∷ 260 ∷ 262 ∷ 263 ∷ []) ∷ (31 ∷ 257 ∷ 264 ∷ 265 ∷ 274 ∷ [])
-    ∷ (44 ∷ []) ∷ (261 ∷ []) ∷ (266 ∷ 267 ∷ 268 ∷ []) ∷ []
+    ≡ [] ∷ (6 ∷ 7 ∷ span 40 43 ++ span 45 49 ++ 61 ∷ 258 ∷ 259 ∷ []) ∷ (4 ∷ 8 ∷ 9 ∷ 260 ∷ 262 ∷ 263 ∷ [])
+    ∷ (31 ∷ 257 ∷ 264 ∷ 265 ∷ 274 ∷ []) ∷ (44 ∷ []) ∷ (261 ∷ []) ∷ (266 ∷ 267 ∷ 268 ∷ []) ∷ []
 unfolding computing
 formed = refl
 
