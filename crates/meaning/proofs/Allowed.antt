@@ -3,7 +3,8 @@
 use mathlib.Core.Path.{_≡_, refl}
 use mathlib.Core.Bool.{Bool, true, false, not, _&&_}
 use mathlib.Core.List.{List, [], _∷_, _++_, map}
-use Prim.Native.Nat.{ℕ, _+_, _*_, _^_}
+use Prim.Native.Nat.{ℕ, _+_, _^_}
+use lib.Dec.{leb}
 use lib.ListN.{replicate}
 use Rattle.meaning.specs.Octets.{isIn, all, same, octetsOf}
 use Rattle.meaning.specs.Framing.{gpp, Attribute}
@@ -37,19 +38,19 @@ pub status-free : (v : List ℕ) → may 1 40 v ≡ true
 unfolding computing
 status-free v = refl
 
--- the upper octets, at each of their three places, under which one of some values is still allowed
+-- the bits above the lowest octet, 8 to 31, that may be set beside one of some values
 abbrev upper : (kind number : ℕ) → List ℕ → List ℕ
-upper kind n l = those (λ h. not (all (λ p. all (λ x. not (fit kind n (h * 256 ^ p + x))) l) (span 1 3))) 256
+upper kind n l = those (λ b. leb 8 b && not (all (λ x. not (fit kind n (2 ^ b + x))) l)) 32
 
--- all four octets count: 0 alone may stand above an allowed value
+-- all four octets count: no such bit may be set beside an allowed value
 pub upper-zero : (kind : ℕ) →
-    upper kind 6 (2 ∷ []) ∷ upper kind 7 (7 ∷ []) ∷ upper kind 45 (1 ∷ 2 ∷ []) ∷ upper kind 49 (1 ∷ 18 ∷ []) ∷ upper kind (gpp 3) (0 ∷ [])
-    ∷ [] ≡ replicate 5 (0 ∷ [])
+    upper kind 6 (2 ∷ []) ++ upper kind 7 (7 ∷ []) ++ upper kind 45 (1 ∷ 2 ∷ []) ++ upper kind 49 (span 1 18) ++ upper kind (gpp 3) (0 ∷ [])
+    ≡ []
 unfolding computing
 upper-zero kind = refl
 
 pub upper-zero-status :
-    upper 2 40 (1 ∷ []) ∷ upper 3 40 (2 ∷ []) ∷ upper 4 40 (7 ∷ []) ∷ upper 5 40 (8 ∷ []) ∷ upper 6 40 (3 ∷ []) ∷ [] ≡ replicate 5 (0 ∷ [])
+    upper 2 40 (1 ∷ []) ++ upper 3 40 (2 ∷ []) ++ upper 4 40 (7 ∷ []) ++ upper 5 40 (8 ∷ []) ++ upper 6 40 (3 ∷ []) ≡ []
 unfolding computing
 upper-zero-status = refl
 

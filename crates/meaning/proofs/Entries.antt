@@ -3,7 +3,7 @@
 use mathlib.Core.Path.{_≡_, refl}
 use mathlib.Core.Logic.{_⊎_, inl, inr, ⊎-elim}
 use mathlib.Core.Bool.{Bool, true, false, cond, not, _&&_, _||_}
-use mathlib.Core.List.{List, [], _∷_, _++_}
+use mathlib.Core.List.{List, [], _∷_}
 use Prim.Native.Nat.{ℕ, zero, suc, _+_, _*_, _-_, _≤_, _<_}
 use native.Mathlib.Omega.{arith}
 use lib.Dec.{T, eqb, ltb, eqb→eq, ltb→lt, T-not}
@@ -19,10 +19,10 @@ use Rattle.meaning.specs.Breaches.{Wanted, byName, byFlags, byProtocol}
 use Rattle.meaning.specs.Breaches.{Breach, shape1, value2, again3, here4, both5, lacks6, wants7}
 use Rattle.meaning.proofs.Tests.{parts, either, in-among, all-at}
 use Rattle.meaning.proofs.Computing.{computing}
-use Rattle.meaning.proofs.Rising.{among-left, among-right}
+use Rattle.meaning.proofs.Rising.{among-right}
 use Rattle.meaning.proofs.Breaches.{Placed, name-low, mandatories, mandatory-among, conditionals, conditional-among}
 use Rattle.meaning.proofs.Placed.{walk-placed}
-use Rattle.meaning.proofs.Enumerated.{those, haveShape}
+use Rattle.meaning.proofs.Enumerated.{thoseBefore, haveShape}
 use Rattle.meaning.proofs.Shaped.{shapeless}
 
 -- the number can break a rule
@@ -73,20 +73,28 @@ one-breach p r n p' r' n' h h' t t' e =
 
 -- ---- Every breach is such an entry
 
--- a number below k that passes a test is among those that do
-among-those : (p : ℕ → Bool) (k n : ℕ) → n < k → T (p n) → Among n (those p k)
-among-those p zero n h t = absurd (omega arith)
-among-those p (suc k) n h t = go (λ h. among-those p k n h t) (ltb n k) refl
-  where
-    here : (b : Bool) → T b → Among k (put b k [])
-    here true u = inl refl
-    here false u = absurd u
+among-put : (b : Bool) (k n : ℕ) (l : List ℕ) → Among n l → Among n (put b k l)
+among-put true k n l m = inr m
+among-put false k n l m = m
 
-    go : (n < k → Among n (those p k)) → (b : Bool) → ltb n k ≡ b → Among n (those p k ++ put (p k) k [])
-    go f true e = among-left n (those p k) (put (p k) k []) (f (ltb-true n k e))
+put-here : (b : Bool) (k : ℕ) (l : List ℕ) → T b → Among k (put b k l)
+put-here true k l t = inl refl
+put-here false k l t = absurd t
+
+among-before : (p : ℕ → Bool) (k : ℕ) (l : List ℕ) (n : ℕ) → Among n l → Among n (thoseBefore p k l)
+among-before p zero l n m = m
+among-before p (suc k) l n m = among-before p k (put (p k) k l) n (among-put (p k) k n l m)
+
+-- a number below k that passes a test is among those that do
+among-those : (p : ℕ → Bool) (k : ℕ) (l : List ℕ) (n : ℕ) → n < k → T (p n) → Among n (thoseBefore p k l)
+among-those p zero l n h t = absurd (omega arith)
+among-those p (suc k) l n h t = go (λ h. among-those p k (put (p k) k l) n h t) (ltb n k) refl
+  where
+    go : (n < k → Among n (thoseBefore p (suc k) l)) → (b : Bool) → ltb n k ≡ b → Among n (thoseBefore p (suc k) l)
+    go f true e = f (ltb-true n k e)
     go f false e =
         let q : n ≡ k = omega (arith, ltb-false n k e) in
-        rw q (among-right k (those p k) (put (p k) k []) (here (p k) (rw q at t)))
+        rw q (among-before p k (put (p k) k l) k (put-here (p k) k l (rw q at t)))
 
 -- a test that no number without a shape passes
 only : (p : ℕ → Bool) → T (all (λ n. not (p n)) shapeless) → (n : ℕ) → n < 512 → T (p n) → T (canBreak n)
@@ -95,7 +103,7 @@ only p none n h t = go (canBreak n) refl
     go : (b : Bool) → canBreak n ≡ b → T b
     go true q = tt
     go false q =
-        T-not (p n) (all-at (λ n. not (p n)) shapeless none n (among-those (λ n. not (canBreak n)) 512 n h (rw q tt))) t
+        T-not (p n) (all-at (λ n. not (p n)) shapeless none n (among-those (λ n. not (canBreak n)) 512 [] n h (rw q tt))) t
 
 -- the numbers that rule 4 never permits outside kind 1
 abbrev never : List ℕ

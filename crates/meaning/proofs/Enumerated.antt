@@ -11,10 +11,14 @@ use Rattle.meaning.specs.Presence.{mandatory, conditional}
 use Rattle.meaning.specs.Breaches.{put, onceOnly, barred}
 use Rattle.meaning.proofs.Computing.{computing}
 
+-- the numbers below k at which a test passes, before a list
+abbrev pub thoseBefore : (ℕ → Bool) → (k : ℕ) → List ℕ → List ℕ
+thoseBefore p zero l = l
+thoseBefore p (suc k) l = thoseBefore p k (put (p k) k l)
+
 -- the numbers below k at which a test passes
 abbrev pub those : (ℕ → Bool) → (k : ℕ) → List ℕ
-those p zero = []
-those p (suc k) = those p k ++ put (p k) k []
+those p k = thoseBefore p k []
 
 -- rules 4, 6 and 7 of a kind, flags and a number
 abbrev bars : (kind flags number : ℕ) → Bool
