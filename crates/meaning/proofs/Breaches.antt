@@ -134,14 +134,14 @@ module _ (n : ℕ) where
       (by-line (eqb k 2) (eqb n 25) (class (c .flags)) (by-number 25 tt)) (either three four u))
       (either two (three || four) t)
 
-  wanted-among : (c : Context) (l : List Attribute) → Wanted c l n → Among n wantable
+  pub wanted-among : (c : Context) (l : List Attribute) → Wanted c l n → Among n wantable
   wanted-among c l (byFlags t) = flags-among c t
   wanted-among c l (byName f q) = in-among n wantable (rw q tt)
   wanted-among c l (byProtocol t f q) = in-among n wantable (rw q tt)
 
 -- ---- The order of the entries
 
-name-low : (n : ℕ) → n < 512 → typeOf n * 256 + subOf n < 65536
+pub name-low : (n : ℕ) → n < 512 → typeOf n * 256 + subOf n < 65536
 name-low n h = go (ltb n 256) refl
   where
     go : (b : Bool) → ltb n 256 ≡ b → cond b n 26 * 256 + cond b 0 (n - 256) < 65536

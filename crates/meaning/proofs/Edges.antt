@@ -111,7 +111,7 @@ pub record OfSheet : Type 0 where
   pub says : Refusal
 
 -- the mark and version 1
-abbrev front : List ℕ
+abbrev pub front : List ℕ
 front = mark ++ 0 ∷ 1 ∷ []
 
 -- a sheet of kind 1, flags 0 that announces so many items, with these octets after its head
