@@ -12,7 +12,7 @@ use lib.Dec.{leb}
 use lib.ListN.{length, take, drop, getD, set, length-append, length-take, length-drop, length-set, drop-of-length-le}
 use lib.Seq.{length-take-le, take-length, take-all, take-suc, drop-cons, drop-drop, drop-append-add, take-add, paste, paste-zero, paste-suc, set-at, append-snoc, take-at, drop-at}
 use Rattle.meaning.specs.Answers.{over}
-use Rattle.octets.specs.Parts.{partOf, Written, fitsAt, laidAt, Laid}
+use Rattle.octets.specs.Parts.{partOf, Overlaid, fitsAt, laidAt, Laid}
 
 pub over-none : (d : List ℕ) → over [] d ≡ d
 unfolding over
@@ -47,11 +47,11 @@ over-again s t d h =
 
 -- ---- By a loop
 
-pub written-none : (s d : List ℕ) → length s ≤ length d → Written s d d 0
-written-none s d h = record { within = omega arith; room = h; kept = refl; is = sym (over-none d) }
+pub overlaid-none : (s d : List ℕ) → length s ≤ length d → Overlaid s d d 0
+overlaid-none s d h = record { within = omega arith; room = h; kept = refl; is = sym (over-none d) }
 
-pub written-more : (s d out : List ℕ) (i x : ℕ) → Written s d out i → i < length s → x ≡ getD s i 0 → Written s d (set out i x) (i + 1)
-written-more s d out i x w h e =
+pub overlaid-more : (s d out : List ℕ) (i x : ℕ) → Overlaid s d out i → i < length s → x ≡ getD s i 0 → Overlaid s d (set out i x) (i + 1)
+overlaid-more s d out i x w h e =
     record {
       within = omega arith;
       room = w .room;
@@ -60,12 +60,12 @@ written-more s d out i x w h e =
           ∙ ap (λ (t : List ℕ). over t d) (rw (add-one i, take-suc s i 0 h, e));
     }
 
-pub written-all : (s d out : List ℕ) (i : ℕ) → Written s d out i → length s ≤ i → out ≡ over s d
-written-all s d out i w h = let e : i ≡ length s = omega (arith, w .within) in w .is ∙ rw (e, take-length s)
+pub overlaid-all : (s d out : List ℕ) (i : ℕ) → Overlaid s d out i → length s ≤ i → out ≡ over s d
+overlaid-all s d out i w h = let e : i ≡ length s = omega (arith, w .within) in w .is ∙ rw (e, take-length s)
 
 -- What is written stands there for whoever writes the rest.
-pub written-begun : (s d out : List ℕ) (i : ℕ) → Written s d out i → Written s out out i
-written-begun s d out i w =
+pub overlaid-begun : (s d out : List ℕ) (i : ℕ) → Overlaid s d out i → Overlaid s out out i
+overlaid-begun s d out i w =
     let t : List ℕ = take i s in
     record {
       within = w .within;
@@ -75,9 +75,9 @@ written-begun s d out i w =
     }
 
 -- So do fewer of them: some may be written again.
-pub written-before : (s d out : List ℕ) (i j : ℕ) → Written s d out i → j ≤ i → Written s out out j
+pub overlaid-before : (s d out : List ℕ) (i j : ℕ) → Overlaid s d out i → j ≤ i → Overlaid s out out j
 unfolding over
-written-before s d out i j w h =
+overlaid-before s d out i j w h =
     let t : List ℕ = take j s in
     let rest : List ℕ = take (i - j) (drop j s) ++ drop (length (take i s)) d in
     let n : length t ≡ j = length-take-le j s (omega (arith, w .within)) in
@@ -92,8 +92,8 @@ written-before s d out i j w h =
     }
 
 -- And the rest may be written by another.
-pub written-on : (s d out out′ : List ℕ) (i j : ℕ) → Written s d out i → Written s out out′ j → i ≤ j → Written s d out′ j
-written-on s d out out′ i j w v h =
+pub overlaid-on : (s d out out′ : List ℕ) (i j : ℕ) → Overlaid s d out i → Overlaid s out out′ j → i ≤ j → Overlaid s d out′ j
+overlaid-on s d out out′ i j w v h =
     record {
       within = v .within;
       room = w .room;
@@ -102,8 +102,8 @@ written-on s d out out′ i j w v h =
     }
 
 -- To the end, too.
-pub written-end : (s d out out′ : List ℕ) (i : ℕ) → Written s d out i → out′ ≡ over s out → out′ ≡ over s d
-written-end s d out out′ i w e = e ∙ ap (over s) (w .is) ∙ over-again s (take i s) d (omega (arith, length-take-le i s (w .within), w .within))
+pub overlaid-end : (s d out out′ : List ℕ) (i : ℕ) → Overlaid s d out i → out′ ≡ over s out → out′ ≡ over s d
+overlaid-end s d out out′ i w e = e ∙ ap (over s) (w .is) ∙ over-again s (take i s) d (omega (arith, length-take-le i s (w .within), w .within))
 
 -- ---- From a place on
 
@@ -161,9 +161,9 @@ laid-behind s t d held at n e h =
     ∙ rw (take-at s (drop (length s) d) at n, drop-at s (drop (length s) d) at n, drop-drop (length t) (length s) d, length-append s t, append-assoc s t)
 
 -- So a part of what is written, laid right behind what was written of it, is written too.
-pub written-part : (s d out t o : List ℕ) (i n j : ℕ) → Written s d out i → j ≡ i + n → j ≤ length s → t ≡ partOf s i n → o ≡ laidAt i t out → Written s d o j
+pub overlaid-part : (s d out t o : List ℕ) (i n j : ℕ) → Overlaid s d out i → j ≡ i + n → j ≤ length s → t ≡ partOf s i n → o ≡ laidAt i t out → Overlaid s d o j
 unfolding partOf
-written-part s d out t o i n j w j-is h p q =
+overlaid-part s d out t o i n j w j-is h p q =
     let part : t ≡ take n (drop i s) = p in
     let size : length t ≡ n = ap length part ∙ length-take n (drop i s) ∙ omega (arith, length-drop i s) in
     record {
@@ -268,6 +268,9 @@ module _ (at : ℕ) (s d : List ℕ) (n : ℕ) (fit : Bool) (size : n ≡ length
 
   pub laid-not : fit ≡ false → Laid at s d false d
   laid-not e = record { says = sym e ∙ fit-is; holds = sym (laid-none at s d (sym fit-is ∙ e)) }
+
+  pub laid-exactly : (out : List ℕ) → fit ≡ true → out ≡ laidAt at s d → Laid at s d true out
+  laid-exactly out e q = record { says = sym e ∙ fit-is; holds = q }
 
   -- `putMid` is how the borrow checker puts a lent part back: what was laid over the start of the part, said of the whole
   pub laid-part : (p : List ℕ) → fit ≡ true → p ≡ over s (take (length d - at) (drop at d)) → Laid at s d true (putMid at (length d - at) d p)

@@ -30,7 +30,7 @@ pub record Within (area : List ℕ) (i : Item) : Type 0 where
   pub released : (p : Part) → i .value ≡ Plain p → i .form ≡ 6 → 3 ≤ p .len
 
 -- what a writer of the octets s at a place of the buffer d says, how many they are; and what the buffer holds then
-pub record Put (at : ℕ) (s d : List ℕ) (said : ℕ) (held : List ℕ) : Type 0 where
+pub record LaidCounted (at : ℕ) (s d : List ℕ) (said : ℕ) (held : List ℕ) : Type 0 where
   pub says : said ≡ length s
   pub holds : Begun at s d held
 
@@ -39,19 +39,19 @@ unfoldable pub sheetHead : (kind flags count : ℕ) → List ℕ
 sheetHead kind flags count = mark ++ kind ∷ flags ∷ octetsOf 2 count
 
 -- the items of an area, one behind the other
-unfoldable pub itemsIn : (area : List ℕ) → List ℕ
-itemsIn area = itemsOf (attributes (walk area))
+unfoldable pub areaItems : (area : List ℕ) → List ℕ
+areaItems area = itemsOf (attributes (walk area))
 
 -- what a pass over a well framed area says: how many items it has and how many octets these are; and what the buffer starts with
 -- then, the items
-pub record Passed (area : List ℕ) (count written : ℕ) (held : List ℕ) : Type 0 where
+pub record ItemsLaid (area : List ℕ) (count written : ℕ) (held : List ℕ) : Type 0 where
   pub sound : fault (walk area) ≡ none
   pub counts : count ≡ length (attributes (walk area))
-  pub long : written ≡ length (itemsIn area)
+  pub long : written ≡ length (areaItems area)
   pub few : written ≤ 2 * length area
-  pub holds : take written held ≡ itemsIn area
+  pub holds : take written held ≡ areaItems area
 
 -- the same of any area
 unfoldable pub PassSays : (area : List ℕ) → Tally → (held : List ℕ) → Type 0
-PassSays area (Whole count written) held = Passed area count written held
+PassSays area (Whole count written) held = ItemsLaid area count written held
 PassSays area (Broken r) held = fault (walk area) ≡ inBook r

@@ -2,7 +2,7 @@
 use borrow.Author.Needs.{needs}
 use mathlib.Core.Path.{refl}
 use native.Mathlib.Omega.{arith}
-use Rattle.octets.proofs.Overs.{written-part}
+use Rattle.octets.proofs.Overs.{overlaid-part}
 use Rattle.octets.proofs.copy_eight.Statement.{statement}
 use Rattle.octets.proofs.copy_eight.Tie as tie
 
@@ -35,8 +35,8 @@ same-length c = search needs
 
 returns : tie.Need-returns
 returns c =
-    let first = written-part _ _ _ _ _ _ 4 _ (c .before .before .before .before .before .before .before .before .before .before .before .before .before .before .pre .0) refl (omega arith) (c .before .before .before .before .before .before .before .before .before .before .before .four-at .ensures) (c .before .before .before .before .before .before .before .lay-at .ensures) in
-    written-part _ _ _ _ _ _ 4 _ first (omega arith) (omega arith) (c .before .before .before .before .before .before .before .before .before .before .four-at2 .ensures) (c .before .before .lay-at2 .ensures)
+    let first = overlaid-part _ _ _ _ _ _ 4 _ (c .before .before .before .before .before .before .before .before .before .before .before .before .before .before .pre .0) refl (omega arith) (c .before .before .before .before .before .before .before .before .before .before .before .four-at .ensures) (c .before .before .before .before .before .before .before .lay-at .ensures) in
+    overlaid-part _ _ _ _ _ _ 4 _ first (omega arith) (omega arith) (c .before .before .before .before .before .before .before .before .before .before .four-at2 .ensures) (c .before .before .lay-at2 .ensures)
 
 pub copy-eight-spec : {M : Type 1} → statement M
 copy-eight-spec =

@@ -6,7 +6,7 @@ use native.Mathlib.Omega.{arith}
 use Rattle.meaning.specs.Octets.{pack}
 use Rattle.octets.specs.DigitStrings.{halves}
 use Rattle.octets.proofs.Parts.{part-placed}
-use Rattle.octets.proofs.Overs.{written-part}
+use Rattle.octets.proofs.Overs.{overlaid-part}
 use Rattle.octets.proofs.Halves.{halves-packed}
 use Rattle.octets.proofs.pack_eight.Statement.{statement}
 use Rattle.octets.proofs.pack_eight.Tie as tie
@@ -69,7 +69,7 @@ returns : tie.Need-returns
 returns c =
     let s = c .before .before .before .before .before .before .before .before .before .before .before .before .before .before .before in
     let room = halves-packed (s .args .text .now) in
-    written-part _ _ _ _ _ _ 8 _ (s .pre .0) refl (omega (arith, room))
+    overlaid-part _ _ _ _ _ _ 8 _ (s .pre .0) refl (omega (arith, room))
     (rw (c .before .before .before .before .before .before .before .before .before .before .before .before .two-halves .ensures, c .before .before .before .before .before .before .before .before .before .before .before .two-halves2 .ensures, c .before .before .before .before .before .before .before .before .before .before .two-halves3 .ensures, c .before .before .before .before .before .before .before .before .before .two-halves4 .ensures, c .before .before .before .before .before .before .before .before .two-halves5 .ensures, c .before .before .before .before .before .before .before .two-halves6 .ensures, c .before .before .before .before .before .before .two-halves7 .ensures, c .before .before .before .before .before .two-halves8 .ensures) (rw (add-zero (s .args .at)) at (part-placed (pack (halves (s .args .text .now))) (s .args .at) 8 (omega (arith, room)))))
     (c .before .before .lay-at .ensures)
 

@@ -3,15 +3,15 @@ use borrow.Author.Needs.{needs}
 use Prim.Native.Nat.{_-_, _≤_}
 use native.Mathlib.Omega.{arith}
 use Rattle.meaning.specs.Octets.{pack}
-use Rattle.octets.specs.Parts.{Written}
+use Rattle.octets.specs.Parts.{Overlaid}
 use Rattle.octets.specs.DigitStrings.{halves}
-use Rattle.octets.proofs.Overs.{written-more, written-all}
+use Rattle.octets.proofs.Overs.{overlaid-more, overlaid-all}
 use Rattle.octets.proofs.Halves.{halves-packed, halves-one}
 use Rattle.octets.proofs.pack_rest.Statement.{statement}
 use Rattle.octets.proofs.pack_rest.Tie as tie
 
 abbrev Inv-loop : tie.InvT-loop
-Inv-loop buf₀ text at pairs i₀ buf i = Written (pack (halves text)) buf₀ buf i × (i ≤ pairs)
+Inv-loop buf₀ text at pairs i₀ buf i = Overlaid (pack (halves text)) buf₀ buf i × (i ≤ pairs)
 
 abbrev μ-loop : tie.MeasureT-loop
 μ-loop buf₀ text at pairs i₀ buf i = pairs - i
@@ -32,7 +32,7 @@ loop-less : tie.Need-loop-less Inv-loop μ-loop
 loop-less c = search needs
 
 loop-again : tie.Need-loop-again Inv-loop μ-loop
-loop-again c = (written-more _ _ _ _ _ (c .before .before .loop .inv .0) (omega (arith, halves-packed (c .before .before .before .before .before .args .text .now))) (c .two-halves .ensures), omega arith)
+loop-again c = (overlaid-more _ _ _ _ _ (c .before .before .loop .inv .0) (omega (arith, halves-packed (c .before .before .before .before .before .args .text .now))) (c .two-halves .ensures), omega arith)
 
 mul-if1 : tie.Need-mul-if1 Inv-loop μ-loop
 mul-if1 c = search needs
@@ -59,13 +59,13 @@ returns : tie.Need-returns Inv-loop μ-loop
 returns c =
     let u = c .before .before .before .before .before .loop in
     let text = c .before .before .before .before .before .before .before .before .args .text .now in
-    written-all _ _ _ _ (written-more _ _ _ _ _ (u .inv .0) (omega (arith, halves-packed text)) (halves-one text (u .i) (omega arith) (omega arith) _ _ (c .before .half-of .ensures) (c .pair .ensures))) (omega (arith, halves-packed text))
+    overlaid-all _ _ _ _ (overlaid-more _ _ _ _ _ (u .inv .0) (omega (arith, halves-packed text)) (halves-one text (u .i) (omega arith) (omega arith) _ _ (c .before .half-of .ensures) (c .pair .ensures))) (omega (arith, halves-packed text))
 
 same-length-2 : tie.Need-same-length-2 Inv-loop μ-loop
 same-length-2 c = search needs
 
 returns-2 : tie.Need-returns-2 Inv-loop μ-loop
-returns-2 c = written-all _ _ _ _ (c .before .before .loop .inv .0) (omega (arith, halves-packed (c .before .before .before .before .before .args .text .now)))
+returns-2 c = overlaid-all _ _ _ _ (c .before .before .loop .inv .0) (omega (arith, halves-packed (c .before .before .before .before .before .args .text .now)))
 
 pub pack-rest-spec : {M : Type 1} → statement M
 pack-rest-spec =

@@ -5,14 +5,14 @@ use Prim.Native.Nat.{_*_, _-_, _≤_}
 use native.Mathlib.Omega.{arith}
 use lib.ListN.{getD, length-set}
 use Rattle.meaning.specs.Octets.{digitText, unpack, text}
-use Rattle.octets.specs.Parts.{Written}
-use Rattle.octets.proofs.Overs.{written-none, written-all}
+use Rattle.octets.specs.Parts.{Overlaid}
+use Rattle.octets.proofs.Overs.{overlaid-none, overlaid-all}
 use Rattle.octets.proofs.Unpacking.{unpacked-length, high-written, two-written, high-text}
 use Rattle.octets.proofs.unpack_text.Statement.{statement}
 use Rattle.octets.proofs.unpack_text.Tie as tie
 
 abbrev Inv-loop : tie.InvT-loop
-Inv-loop buf₀ s n pairs i₀ buf i = Written (text (unpack n s)) buf₀ buf (2 * i) × (i ≤ pairs)
+Inv-loop buf₀ s n pairs i₀ buf i = Overlaid (text (unpack n s)) buf₀ buf (2 * i) × (i ≤ pairs)
 
 abbrev μ-loop : tie.MeasureT-loop
 μ-loop buf₀ s n pairs i₀ buf i = pairs - i
@@ -20,7 +20,7 @@ abbrev μ-loop : tie.MeasureT-loop
 loop-holds : tie.Need-loop-holds Inv-loop μ-loop
 loop-holds c =
     let a = c .before .before .args in
-    (written-none _ _ (omega (arith, unpacked-length (a .n) (a .s .now))), omega arith)
+    (overlaid-none _ _ (omega (arith, unpacked-length (a .n) (a .s .now))), omega arith)
 
 shared-slice-read-x : tie.Need-shared-slice-read-x Inv-loop μ-loop
 shared-slice-read-x c = search needs
@@ -84,7 +84,7 @@ returns c =
     let u = c .before .before .before .before .loop in
     let a = c .before .before .before .before .before .before .before .args in
     let octet = c .before .shared-slice-known3 .given (u .i) in
-    written-all _ _ _ _ (high-written digitText _ _ _ _ _ (u .inv .0) (omega arith) _ (omega arith) (c .digit-text3 .ensures ∙ high-text (getD (a .s .now) (u .i) 0) (omega (arith, octet)))) (omega (arith, unpacked-length (a .n) (a .s .now)))
+    overlaid-all _ _ _ _ (high-written digitText _ _ _ _ _ (u .inv .0) (omega arith) _ (omega arith) (c .digit-text3 .ensures ∙ high-text (getD (a .s .now) (u .i) 0) (omega (arith, octet)))) (omega (arith, unpacked-length (a .n) (a .s .now)))
 
 same-length-2 : tie.Need-same-length-2 Inv-loop μ-loop
 same-length-2 c = search needs
@@ -92,7 +92,7 @@ same-length-2 c = search needs
 returns-2 : tie.Need-returns-2 Inv-loop μ-loop
 returns-2 c =
     let a = c .before .before .before .before .before .args in
-    written-all _ _ _ _ (c .before .before .loop .inv .0) (omega (arith, unpacked-length (a .n) (a .s .now)))
+    overlaid-all _ _ _ _ (c .before .before .loop .inv .0) (omega (arith, unpacked-length (a .n) (a .s .now)))
 
 pub unpack-text-spec : {M : Type 1} → statement M
 unpack-text-spec =

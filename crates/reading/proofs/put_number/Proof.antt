@@ -26,7 +26,7 @@ same-length-2 : tie.Need-same-length-2
 same-length-2 c = search needs
 
 returns-2 : tie.Need-returns-2
-returns-2 c = put-word _ _ _ _ _ _ (c .before .before .before .before .before .if1 .left) (c .before .before .before .u32-octets .ensures) (c .before .before .before .before .before .before .before .pre) (c .before .before .put-four .ensures)
+returns-2 c = put-word _ _ _ _ _ _ (c .before .before .before .before .before .if1 .left) (c .before .before .before .u32-octets .ensures) (c .before .before .before .before .before .before .before .pre) (c .before .before .put-four .ensures .holds)
 
 pub put-number-spec : {M : Type 1} → statement M
 put-number-spec =

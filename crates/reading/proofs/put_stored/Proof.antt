@@ -30,7 +30,7 @@ same-length-2 : tie.Need-same-length-2
 same-length-2 c = search needs
 
 returns-2 : tie.Need-returns-2
-returns-2 c = put-as _ _ _ _ _ _ (address-stored _ _ _ (c .before .before .before .before .before .before .value2 .given .1)) (put-address _ _ _ _ _ (c .before .before .before .u32-octets .ensures) (omega (arith, c .before .before .before .before .before .before .before .before .before .before .pre .1)) (c .before .before .put-four .ensures))
+returns-2 c = put-as _ _ _ _ _ _ (address-stored _ _ _ (c .before .before .before .before .before .before .value2 .given .1)) (put-address _ _ _ _ _ (c .before .before .before .u32-octets .ensures) (omega (arith, c .before .before .before .before .before .before .before .before .before .before .pre .1)) (c .before .before .put-four .ensures .holds))
 
 enum-told : tie.Need-enum-told
 enum-told c = search needs
@@ -51,7 +51,7 @@ same-length-3 : tie.Need-same-length-3
 same-length-3 c = search needs
 
 returns-3 : tie.Need-returns-3
-returns-3 c = put-as _ _ _ _ _ _ (digits-stored _ _ (c .before .before .before .before .before .before .before .before .enum-told .given .1)) (digits-put _ _ _ _ _ _ _ (c .before .before .before .before .before .packed .ensures) (c .before .least .ensures) (c .packed-len .ensures) (omega (arith, c .before .before .before .before .before .before .before .before .before .before .before .before .pre .1)) (c .before .before .before .before .put-eight .ensures))
+returns-3 c = put-as _ _ _ _ _ _ (digits-stored _ _ (c .before .before .before .before .before .before .before .before .enum-told .given .1)) (digits-put _ _ _ _ _ _ _ (c .before .before .before .before .before .packed .ensures) (c .before .least .ensures) (c .packed-len .ensures) (omega (arith, c .before .before .before .before .before .before .before .before .before .before .before .before .pre .1)) (c .before .before .before .before .put-eight .ensures .holds))
 
 enum-known-value-3 : tie.Need-enum-known-value-3
 enum-known-value-3 c = search needs
