@@ -26,6 +26,7 @@ const ROOM: usize = 8168;
 
 // Most areas are short, and a short buffer takes less time to clear: areas up to so many octets have one, with the same room.
 const SHORT_AREA: usize = 384;
+
 const SHORT_ROOM: usize = 784;
 
 // What reading answers: the octets of the sheet that stands at the buffer's start, or a refusal.

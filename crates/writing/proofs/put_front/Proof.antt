@@ -1,10 +1,7 @@
--- One octet, or twice four. Assumes nothing.
-use borrow.Author.Needs.{needs}
+-- One octet, or eight. Assumes nothing.
 use native.Mathlib.Omega.{arith}
-use Prim.Native.Nat.{_+_}
-use Rattle.octets.proofs.Overs.{laid-keeps}
-use Rattle.area.proofs.Carrying.{gpp-head-length}
 use Rattle.writing.proofs.Putting.{head-two, plain-front, gpp-front}
+use borrow.Author.Needs.{needs}
 use Rattle.writing.proofs.put_front.Statement.{statement}
 use Rattle.writing.proofs.put_front.Tie as tie
 
@@ -20,26 +17,17 @@ same-length c = search needs
 returns : tie.Need-returns
 returns c = plain-front _ _ _ (c .if1 .taken) (c .before .before .pre .1)
 
-put-four-requires : tie.Need-put-four-requires
-put-four-requires c κs = omega (arith, c .before .before .before .pre .1, gpp-head-length (c .before .before .before .args .number) (c .before .if1 .left))
+cast-t10 : tie.Need-cast-t10
+cast-t10 c = search needs
 
-add-put-four : tie.Need-add-put-four
-add-put-four c = search needs
-
-cast-t15 : tie.Need-cast-t15
-cast-t15 c = search needs
-
-put-four-requires-2 : tie.Need-put-four-requires-2
-put-four-requires-2 c κs = let s = c .before .before .before .before .before .before .before in
-    omega (arith, laid-keeps _ _ _ _ (s .args .at + 8) (c .before .before .before .put-four .ensures) (omega (arith, s .pre .1, gpp-head-length (s .args .number) (c .before .before .before .before .before .if1 .left))))
+put-eight-requires : tie.Need-put-eight-requires
+put-eight-requires c κs = search needs
 
 same-length-2 : tie.Need-same-length-2
 same-length-2 c = search needs
 
 returns-2 : tie.Need-returns-2
-returns-2 c = let s = c .before .before .before .before .before .before .before .before .before .before in
-    let far = c .before .before .before .before .before .before .before .before .if1 .left in
-    gpp-front _ _ _ _ _ far (omega (arith, s .pre .1, gpp-head-length (s .args .number) far)) (c .before .before .before .before .before .before .put-four .ensures) (c .before .before .put-four2 .ensures)
+returns-2 c = gpp-front _ _ _ _ (c .before .before .before .before .if1 .left) (c .before .before .put-eight .ensures .holds)
 
 pub put-front-spec : {M : Type 1} → statement M
 put-front-spec =
@@ -49,9 +37,7 @@ put-front-spec =
     slice-write-buf
     same-length
     returns
-    put-four-requires
-    add-put-four
-    cast-t15
-    put-four-requires-2
+    cast-t10
+    put-eight-requires
     same-length-2
     returns-2)

@@ -10,7 +10,7 @@ use Rattle.item.specs.Answers.{headedAt}
 use Rattle.item.specs.declared.Headed.the-variants.{Item}
 use Rattle.writing.specs.Attributes.{Attributed}
 use Rattle.writing.proofs.Entries.{stored-here, size-is, size-within, behind-head, behind-within, carried-low, attributed-here}
-use Rattle.writing.proofs.Transcribing.{Transcribing, transcribing-none, transcribing-refused, transcribing-23, put-short, transcribing-more, transcribing-remains, transcribing-done}
+use Rattle.writing.proofs.Transcribing.{Transcribing, transcribing-none, transcribing-refused, transcribing-23, put-short, transcribing-more, transcribing-ended}
 use Rattle.writing.proofs.transcribe.Statement.{statement}
 use Rattle.writing.proofs.transcribe.Tie as tie
 
@@ -99,8 +99,8 @@ put-attribute-requires c κs = let k = c .before .before .before in
     let m = c .before .before .least .ensures in
     (carried-low _ _ (octets k) _ (says k) _ _ _ _ (item k), (size-is _ _ (octets k) _ (says k) _ _ _ _ (item k), (size-within _ _ (octets k) _ (says k) _ _ _ _ (item k), omega (arith, room k, kept k, m))))
 
-broken-requires : tie.Need-broken-requires Inv-loop μ-loop
-broken-requires c κs = search needs
+refused-requires : tie.Need-refused-requires Inv-loop μ-loop
+refused-requires c κs = search needs
 
 same-length : tie.Need-same-length Inv-loop μ-loop
 same-length c = let d = c .before .before .before .before in d .put-attribute .kept .0 ∙ kept (d .before .before .before .before)
@@ -108,7 +108,7 @@ same-length c = let d = c .before .before .before .before in d .put-attribute .k
 returns : tie.Need-returns Inv-loop μ-loop
 returns c = let d = c .before .before .before .before in
     let k = d .before .before .before .before in
-    rw (c .broken .ensures) (transcribing-23 _ _ _ _ _ (inv k) (some k) (octets k) _ (says k) _ _ _ _ (item k) _ _ _ (attributed d) (c .before .if1 .taken))
+    rw (c .refused .ensures) (transcribing-23 _ _ _ _ _ (inv k) (some k) (octets k) _ (says k) _ _ _ _ (item k) _ _ _ (attributed d) (c .before .if1 .taken))
 
 add-written : tie.Need-add-written Inv-loop μ-loop
 add-written c = let d = c .before .before .before in
@@ -136,20 +136,15 @@ returns-2 : tie.Need-returns-2 Inv-loop μ-loop
 returns-2 c = let l = c .before .before .before .before .before .before .before .before .before .args .sheet .now in
     transcribing-refused _ _ _ _ _ (c .before .before .before .before .before .loop .inv .0) (omega (arith, c .before .before .before .before .loop-test .taken)) (slice-octets l (c .before .before .before .before .before .before .before .before .shared-slice-known .given)) _ (c .before .before .before .head-at .ensures) _ _ (c .before .refusal .given .1)
 
-broken-requires-2 : tie.Need-broken-requires-2 Inv-loop μ-loop
-broken-requires-2 c κs = search needs
+ended-requires : tie.Need-ended-requires Inv-loop μ-loop
+ended-requires c κs = search needs
 
 same-length-3 : tie.Need-same-length-3 Inv-loop μ-loop
-same-length-3 c = c .before .before .before .loop .inv .1
+same-length-3 c = c .before .before .loop .inv .1
 
 returns-3 : tie.Need-returns-3 Inv-loop μ-loop
-returns-3 c = rw (c .broken2 .ensures) (transcribing-remains _ _ _ _ _ (c .before .before .before .loop .inv .0) (omega (arith, c .before .before .loop-test .left)) (c .before .if2 .taken))
-
-same-length-4 : tie.Need-same-length-4 Inv-loop μ-loop
-same-length-4 c = c .before .before .loop .inv .1
-
-returns-4 : tie.Need-returns-4 Inv-loop μ-loop
-returns-4 c = transcribing-done _ _ _ _ _ (c .before .before .loop .inv .0) (omega (arith, c .before .loop-test .left)) (omega arith)
+returns-3 c =
+    rw (c .ended .ensures) (transcribing-ended _ _ _ _ _ (c .before .before .loop .inv .0) (omega (arith, c .before .loop-test .left)))
 
 pub transcribe-spec : {M : Type 1} → statement M
 transcribe-spec =
@@ -170,7 +165,7 @@ transcribe-spec =
     part-rest-end
     sub-put-attribute
     put-attribute-requires
-    broken-requires
+    refused-requires
     same-length
     returns
     add-written
@@ -180,8 +175,6 @@ transcribe-spec =
     enum-known-refusal
     same-length-2
     returns-2
-    broken-requires-2
+    ended-requires
     same-length-3
-    returns-3
-    same-length-4
-    returns-4)
+    returns-3)
