@@ -269,9 +269,6 @@ module _ (at : ℕ) (s d : List ℕ) (n : ℕ) (fit : Bool) (size : n ≡ length
   pub laid-not : fit ≡ false → Laid at s d false d
   laid-not e = record { says = sym e ∙ fit-is; holds = sym (laid-none at s d (sym fit-is ∙ e)) }
 
-  pub laid-exactly : (out : List ℕ) → fit ≡ true → out ≡ laidAt at s d → Laid at s d true out
-  laid-exactly out e q = record { says = sym e ∙ fit-is; holds = q }
-
   -- `putMid` is how the borrow checker puts a lent part back: what was laid over the start of the part, said of the whole
   pub laid-part : (p : List ℕ) → fit ≡ true → p ≡ over s (take (length d - at) (drop at d)) → Laid at s d true (putMid at (length d - at) d p)
   laid-part p e q =

@@ -261,31 +261,6 @@ pub fn copy_sixteen(buf: &mut [u8], at: usize, src: &[u8]) -> bool
     copy_at(buf, at, part(src, 0, 16))
 }
 
-// Lays a few octets over `buf` from the place `at` on, one by one, and says true, if they fit; else changes nothing and says false.
-fn put_few(buf: &mut [u8], at: usize, s: &[u8]) -> bool
-    ensures { λ r. ⌜ Laid at (now (s .entry)) (now (buf .entry)) r (now (buf .exit)) ⌝ }
-{
-    if !fits(buf.len(), at, s.len()) {
-        return false;
-    }
-    lay_at(buf, at, s);
-    true
-}
-
-// The same of four octets, which can go as one.
-pub fn put_four(buf: &mut [u8], at: usize, four: [u8; 4]) -> bool
-    ensures { λ r. ⌜ Laid at four (now (buf .entry)) r (now (buf .exit)) ⌝ }
-{
-    put_few(buf, at, &four)
-}
-
-// The same of eight.
-pub fn put_eight(buf: &mut [u8], at: usize, eight: [u8; 8]) -> bool
-    ensures { λ r. ⌜ Laid at eight (now (buf .entry)) r (now (buf .exit)) ⌝ }
-{
-    put_few(buf, at, &eight)
-}
-
 // Whether `x` is a decimal digit.
 pub fn is_digit(x: u8) -> bool
     ensures { λ r. ⌜ r ≡ isDigit x ⌝ }

@@ -50,6 +50,32 @@ fn release_of(text: &[u8]) -> u8
     ((tens * 10 + ones) % 256) as u8
 }
 
+// Lays four octets, which have room there.
+fn put_four(buf: &mut [u8], at: usize, four: [u8; 4])
+    requires { ⌜ at + 4 ≤ length (now buf) ⌝ }
+    ensures { λ _. ⌜ now (buf .exit) ≡ laidAt at four (now (buf .entry)) ⌝ }
+{
+    buf[at] = four[0];
+    buf[at + 1] = four[1];
+    buf[at + 2] = four[2];
+    buf[at + 3] = four[3];
+}
+
+// Lays eight octets, which have room there.
+fn put_eight(buf: &mut [u8], at: usize, eight: [u8; 8])
+    requires { ⌜ at + 8 ≤ length (now buf) ⌝ }
+    ensures { λ _. ⌜ now (buf .exit) ≡ laidAt at eight (now (buf .entry)) ⌝ }
+{
+    buf[at] = eight[0];
+    buf[at + 1] = eight[1];
+    buf[at + 2] = eight[2];
+    buf[at + 3] = eight[3];
+    buf[at + 4] = eight[4];
+    buf[at + 5] = eight[5];
+    buf[at + 6] = eight[6];
+    buf[at + 7] = eight[7];
+}
+
 // Lays a number: one octet in form 7, else four. The answer of this writer and of those below is how many octets they lay.
 fn put_number(buf: &mut [u8], at: usize, form: u8, n: u32) -> usize
     requires { ⌜ at + 4 ≤ length (now buf) ⌝ }
@@ -59,7 +85,7 @@ fn put_number(buf: &mut [u8], at: usize, form: u8, n: u32) -> usize
         buf[at] = (n % 256) as u8;
         return 1;
     }
-    octets::put_four(buf, at, octets::u32_octets(n));
+    put_four(buf, at, octets::u32_octets(n));
     4
 }
 
@@ -107,12 +133,12 @@ fn put_stored(buf: &mut [u8], at: usize, area: &[u8], item: Item) -> usize
             return put_number(buf, at, form, n);
         }
         Value::Address(n) => {
-            octets::put_four(buf, at, octets::u32_octets(n));
+            put_four(buf, at, octets::u32_octets(n));
             return 4;
         }
         Value::Digits => {
             let digits = item.digits;
-            octets::put_eight(buf, at, octets::packed(digits));
+            put_eight(buf, at, octets::packed(digits));
             return octets::packed_len(octets::least(digits.len, 15));
         }
         Value::Plain(p) => {

@@ -76,10 +76,10 @@ pub plain-front : (n at : ℕ) (d : List ℕ) → n < 256 → at + headLength n 
 unfolding attributeFront
 plain-front n at d h room = each-laid at (n ∷ []) d (omega (arith, head-two n)) 0 refl ∙ rw (lt-ltb n 256 h)
 
-pub gpp-front : (n at : ℕ) (d out : List ℕ) → 256 ≤ n → out ≡ laidAt at (26 ∷ 0 ∷ 0 ∷ 0 ∷ 40 ∷ 175 ∷ (n - 256) ∷ 0 ∷ []) d
-    → out ≡ laidAt at (attributeFront n) d
+pub gpp-front : (n at : ℕ) (d first out : List ℕ) → 256 ≤ n → at + 8 ≤ length d → first ≡ laidAt at (26 ∷ 0 ∷ 0 ∷ 0 ∷ []) d → out ≡ laidAt (at + 4) (40 ∷ 175 ∷ (n - 256) ∷ 0 ∷ []) first → out ≡ laidAt at (attributeFront n) d
 unfolding attributeFront
-gpp-front n at d out h e = rw (le-ltb n 256 h) e
+gpp-front n at d first out h room f e =
+    e ∙ rw (f, le-ltb n 256 h) (laid-two at 4 (26 ∷ 0 ∷ 0 ∷ 0 ∷ []) (40 ∷ 175 ∷ (n - 256) ∷ 0 ∷ []) d refl room)
 
 -- The front, the value behind it and then the lengths: the attribute stands there.
 pub attribute-stands : (n k at : ℕ) (v d front first out : List ℕ) → k ≡ length v → at + headLength n ≤ length d → front ≡ laidAt at (attributeFront n) d → Begun (at + headLength n) v front first → out ≡ lengthsAt at (headLength n) k first → Begun at (attributeOctets n v) d out

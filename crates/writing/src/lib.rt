@@ -46,6 +46,17 @@ pub enum Judgement {
     Refused(Refusal),
 }
 
+// Lays four octets, which have room there.
+fn put_four(buf: &mut [u8], at: usize, four: [u8; 4])
+    requires { ⌜ at + 4 ≤ length (now buf) ⌝ }
+    ensures { λ _. ⌜ now (buf .exit) ≡ laidAt at four (now (buf .entry)) ⌝ }
+{
+    buf[at] = four[0];
+    buf[at + 1] = four[1];
+    buf[at + 2] = four[2];
+    buf[at + 3] = four[3];
+}
+
 // Lays what stands before an attribute's value but for its lengths: the type, or type 26, the vendor id and the sub-attribute number.
 fn put_front(buf: &mut [u8], at: usize, number: u16)
     requires { ⌜ (number < 512) × (at + headLength number ≤ length (now buf)) ⌝ }
@@ -55,7 +66,8 @@ fn put_front(buf: &mut [u8], at: usize, number: u16)
         buf[at] = number as u8;
         return;
     }
-    octets::put_eight(buf, at, [26, 0, 0, 0, 40, 175, (number - 256) as u8, 0]);
+    put_four(buf, at, [26, 0, 0, 0]);
+    put_four(buf, at + 4, [40, 175, (number - 256) as u8, 0]);
 }
 
 // Lays the lengths in the head of an attribute whose value has so many octets: that of the sub-attribute, and that of the whole. A plain
@@ -129,7 +141,7 @@ fn put_fours(buf: &mut [u8], at: usize, own: bool, stored: &[u8]) -> usize
     if stored.len() != 4 {
         return 256;
     }
-    octets::put_four(buf, at, [stored[0], stored[1], stored[2], stored[3]]);
+    put_four(buf, at, [stored[0], stored[1], stored[2], stored[3]]);
     4
 }
 

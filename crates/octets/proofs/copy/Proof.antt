@@ -13,17 +13,8 @@ Inv-loop buf₀ src last i₀ buf i = Overlaid src buf₀ buf i × (i ≤ last +
 abbrev μ-loop : tie.MeasureT-loop
 μ-loop buf₀ src last i₀ buf i = last + 8 - i
 
-copy-few-requires : tie.Need-copy-few-requires Inv-loop μ-loop
-copy-few-requires c κs = search needs
-
-same-length : tie.Need-same-length Inv-loop μ-loop
-same-length c = search needs
-
 returns : tie.Need-returns Inv-loop μ-loop
 returns c = c .before .before .copy-few .ensures
-
-sub-last : tie.Need-sub-last Inv-loop μ-loop
-sub-last c = search needs
 
 loop-holds : tie.Need-loop-holds Inv-loop μ-loop
 loop-holds c = (overlaid-none _ _ (omega arith), omega arith)
@@ -31,20 +22,11 @@ loop-holds c = (overlaid-none _ _ (omega arith), omega arith)
 copy-eight-requires : tie.Need-copy-eight-requires Inv-loop μ-loop
 copy-eight-requires c κs = (overlaid-begun _ _ _ _ (c .before .before .loop .inv .0), omega arith)
 
-add-i : tie.Need-add-i Inv-loop μ-loop
-add-i c = search needs
-
-loop-less : tie.Need-loop-less Inv-loop μ-loop
-loop-less c = search needs
-
 loop-again : tie.Need-loop-again Inv-loop μ-loop
 loop-again c = (overlaid-on _ _ _ _ _ _ (c .before .before .before .before .before .loop .inv .0) (c .before .before .copy-eight .ensures) (omega arith), omega arith)
 
 copy-eight-requires-2 : tie.Need-copy-eight-requires-2 Inv-loop μ-loop
 copy-eight-requires-2 c κs = (overlaid-before _ _ _ _ _ (c .before .before .loop .inv .0) (omega arith), omega arith)
-
-same-length-2 : tie.Need-same-length-2 Inv-loop μ-loop
-same-length-2 c = search needs
 
 returns-2 : tie.Need-returns-2 Inv-loop μ-loop
 returns-2 c = overlaid-all _ _ _ _ (overlaid-on _ _ _ _ _ _ (c .before .before .before .before .before .loop .inv .0) (c .before .before .copy-eight2 .ensures) (omega arith)) (omega arith)
@@ -55,15 +37,15 @@ copy-spec =
     (tie.spec
     Inv-loop
     μ-loop
-    copy-few-requires
-    same-length
+    (λ c κs. search needs)
+    (λ c. search needs)
     returns
-    sub-last
+    (λ c. search needs)
     loop-holds
     copy-eight-requires
-    add-i
-    loop-less
+    (λ c. search needs)
+    (λ c. search needs)
     loop-again
     copy-eight-requires-2
-    same-length-2
+    (λ c. search needs)
     returns-2)

@@ -23,26 +23,14 @@ abbrev μ-loop : tie.MeasureT-loop
 pack-rest-requires : tie.Need-pack-rest-requires Inv-loop μ-loop
 pack-rest-requires c κs = (overlaid-none _ _ (omega (arith, halves-packed (c .before .before .before .before .args .text .now))), omega arith)
 
-same-length : tie.Need-same-length Inv-loop μ-loop
-same-length c = search needs
-
 returns : tie.Need-returns Inv-loop μ-loop
 returns c = c .before .before .pack-rest .ensures
 
 loop-holds : tie.Need-loop-holds Inv-loop μ-loop
 loop-holds c = rw (zero-min _) (overlaid-none _ _ (omega (arith, halves-packed (c .before .before .before .args .text .now))))
 
-least-requires : tie.Need-least-requires Inv-loop μ-loop
-least-requires c κs = search needs
-
 pack-eight-requires : tie.Need-pack-eight-requires Inv-loop μ-loop
 pack-eight-requires c κs = (overlaid-before _ _ _ _ _ (c .before .before .before .loop .inv) (omega arith), omega arith)
-
-add-i : tie.Need-add-i Inv-loop μ-loop
-add-i c = search needs
-
-loop-less : tie.Need-loop-less Inv-loop μ-loop
-loop-less c = search needs
 
 loop-again : tie.Need-loop-again Inv-loop μ-loop
 loop-again c =
@@ -54,9 +42,6 @@ loop-again c =
 pack-rest-requires-2 : tie.Need-pack-rest-requires-2 Inv-loop μ-loop
 pack-rest-requires-2 c κs = (overlaid-before _ _ _ _ _ (c .before .before .loop .inv) (omega arith), omega arith)
 
-same-length-2 : tie.Need-same-length-2 Inv-loop μ-loop
-same-length-2 c = search needs
-
 returns-2 : tie.Need-returns-2 Inv-loop μ-loop
 returns-2 c = overlaid-end _ _ _ _ _ (c .before .before .before .before .before .loop .inv) (c .before .before .pack-rest2 .ensures)
 
@@ -67,14 +52,14 @@ pack-text-spec =
     Inv-loop
     μ-loop
     pack-rest-requires
-    same-length
+    (λ c. search needs)
     returns
     loop-holds
-    least-requires
+    (λ c κs. search needs)
     pack-eight-requires
-    add-i
-    loop-less
+    (λ c. search needs)
+    (λ c. search needs)
     loop-again
     pack-rest-requires-2
-    same-length-2
+    (λ c. search needs)
     returns-2)

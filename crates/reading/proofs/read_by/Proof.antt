@@ -8,22 +8,10 @@ use Rattle.reading.proofs.Whole.{bounded, handed-read, framing-refused,
 use Rattle.reading.proofs.read_by.Statement.{statement}
 use Rattle.reading.proofs.read_by.Tie as tie
 
-put-items-requires : tie.Need-put-items-requires
-put-items-requires c κs = search needs
-
-enum-known-refusal : tie.Need-enum-known-refusal
-enum-known-refusal c = search needs
-
-same-length : tie.Need-same-length
-same-length c = search needs
-
 returns : tie.Need-returns
 returns c =
     let k = c .before .before .before .before .before in
     framing-refused _ _ _ (k .before .before .before .before .before .pre .0) _ _ (k .put-items .ensures) _ _ (c .before .refusal .given .1)
-
-enum-known-count : tie.Need-enum-known-count
-enum-known-count c = search needs
 
 slice-reshare-prefix-hand-over : tie.Need-slice-reshare-prefix-hand-over
 slice-reshare-prefix-hand-over c =
@@ -43,12 +31,6 @@ hand-over-requires c κs =
     let s = k .before .before .before .before .before in
     bounded _ _ _ (s .pre .0) _ _ (k .put-items .ensures) _ _ (c .before .before .before .count .given .1) (slice-octets (s .args .area .now) (k .before .before .before .before .shared-slice-known .given))
 
-same-length-2 : tie.Need-same-length-2
-same-length-2 c = search needs
-
-same-length-3 : tie.Need-same-length-3
-same-length-3 c = search needs
-
 returns-2 : tie.Need-returns-2
 returns-2 c =
     let k = c .before .before .before .before .before .before .before .before .before .before in
@@ -58,14 +40,14 @@ pub read-by-spec : {M : Type 1} → statement M
 read-by-spec =
     tie.close
     (tie.spec
-    put-items-requires
-    enum-known-refusal
-    same-length
+    (λ c κs. search needs)
+    (λ c. search needs)
+    (λ c. search needs)
     returns
-    enum-known-count
+    (λ c. search needs)
     slice-reshare-prefix-hand-over
     slice-aggregate-hand-over
     hand-over-requires
-    same-length-2
-    same-length-3
+    (λ c. search needs)
+    (λ c. search needs)
     returns-2)

@@ -5,14 +5,8 @@ use borrow.Author.Needs.{needs}
 use Rattle.writing.proofs.hand_over.Statement.{statement}
 use Rattle.writing.proofs.hand_over.Tie as tie
 
-enum-known-said : tie.Need-enum-known-said
-enum-known-said c = search needs
-
 returns : tie.Need-returns
 returns c = over-refused _ _ _ _ (c .before .said .given .1)
-
-enum-known-said-2 : tie.Need-enum-known-said-2
-enum-known-said-2 c = search needs
 
 returns-2 : tie.Need-returns-2
 returns-2 c = let k = c .before .before in over-not _ _ _ _ _ _ (k .said2 .given .1) (k .before .before .before .before .pre) (c .if1 .taken)
@@ -21,12 +15,6 @@ slice-aggregate-copy-at : tie.Need-slice-aggregate-copy-at
 slice-aggregate-copy-at c =
     let k = c .before .before .before .before in
     sym (made-long _ _ (k .before .before .before .before .args .area .now) _ _ _ (k .said2 .given .1) (k .before .before .before .before .pre))
-
-copy-at-requires : tie.Need-copy-at-requires
-copy-at-requires c κs = search needs
-
-same-length : tie.Need-same-length
-same-length c = search needs
 
 returns-3 : tie.Need-returns-3
 returns-3 c =
@@ -37,11 +25,11 @@ pub hand-over-spec : {M : Type 1} → statement M
 hand-over-spec =
     tie.close
     (tie.spec
-    enum-known-said
+    (λ c. search needs)
     returns
-    enum-known-said-2
+    (λ c. search needs)
     returns-2
     slice-aggregate-copy-at
-    copy-at-requires
-    same-length
+    (λ c κs. search needs)
+    (λ c. search needs)
     returns-3)

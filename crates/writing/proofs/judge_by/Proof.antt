@@ -13,35 +13,14 @@ use Rattle.writing.proofs.judge_by.Tie as tie
 marked-here : (k : tie.Else1) → marked (k .before .before .before .before .args .sheet .now) ≡ true
 marked-here k = sym (k .before .is-marked .ensures) ∙ not-false _ (k .if1 .left)
 
-is-marked-requires : tie.Need-is-marked-requires
-is-marked-requires c κs = search needs
-
-refused-requires : tie.Need-refused-requires
-refused-requires c κs = search needs
-
 returns : tie.Need-returns
 returns c = rw (c .refused .ensures) (judged-20 _ _ (sym (c .before .before .is-marked .ensures) ∙ not-true _ (c .before .if1 .taken)))
 
 shared-slice-read-wide32 : tie.Need-shared-slice-read-wide32
 shared-slice-read-wide32 c = omega (arith, marked-nine _ (marked-here (c .before)))
 
-wide32-requires : tie.Need-wide32-requires
-wide32-requires c κs = search needs
-
-is-kind-requires : tie.Need-is-kind-requires
-is-kind-requires c κs = search needs
-
 shared-slice-read-wide32-2 : tie.Need-shared-slice-read-wide32-2
 shared-slice-read-wide32-2 c = omega (arith, marked-nine _ (marked-here (c .before .before .before .before)))
-
-wide32-requires-2 : tie.Need-wide32-requires-2
-wide32-requires-2 c κs = search needs
-
-are-flags-requires : tie.Need-are-flags-requires
-are-flags-requires c κs = search needs
-
-refused-requires-2 : tie.Need-refused-requires-2
-refused-requires-2 c κs = search needs
 
 returns-2 : tie.Need-returns-2
 returns-2 c =
@@ -54,9 +33,6 @@ transcribe-requires c κs =
     let k = c .before .before .before .before .before .before .before .before in
     (marked-nine _ (marked-here k), k .before .before .before .before .pre)
 
-same-length : tie.Need-same-length
-same-length c = search needs
-
 returns-3 : tie.Need-returns-3
 returns-3 c =
     let k = c .before .before .before .before .before in
@@ -67,17 +43,17 @@ pub judge-by-spec : {M : Type 1} → statement M
 judge-by-spec =
     tie.close
     (tie.spec
-    is-marked-requires
-    refused-requires
+    (λ c κs. search needs)
+    (λ c κs. search needs)
     returns
     shared-slice-read-wide32
-    wide32-requires
-    is-kind-requires
+    (λ c κs. search needs)
+    (λ c κs. search needs)
     shared-slice-read-wide32-2
-    wide32-requires-2
-    are-flags-requires
-    refused-requires-2
+    (λ c κs. search needs)
+    (λ c κs. search needs)
+    (λ c κs. search needs)
     returns-2
     transcribe-requires
-    same-length
+    (λ c. search needs)
     returns-3)

@@ -12,26 +12,8 @@ returns c = let a = c .before .before .before .args in laying-none _ _ _ _ _ (rw
 returns-2 : tie.Need-returns-2
 returns-2 c = let a = c .before .before .before .before .args in laying-none _ _ _ _ _ (rw (ne-eqb _ 4 (c .if2 .taken)) (and-false (a .own)))
 
-shared-slice-read-t10 : tie.Need-shared-slice-read-t10
-shared-slice-read-t10 c = search needs
-
-shared-slice-read-t12 : tie.Need-shared-slice-read-t12
-shared-slice-read-t12 c = search needs
-
-shared-slice-read-t14 : tie.Need-shared-slice-read-t14
-shared-slice-read-t14 c = search needs
-
-shared-slice-read-t16 : tie.Need-shared-slice-read-t16
-shared-slice-read-t16 c = search needs
-
-put-four-requires : tie.Need-put-four-requires
-put-four-requires c κs = search needs
-
-same-length : tie.Need-same-length
-same-length c = search needs
-
 returns-3 : tie.Need-returns-3
-returns-3 c = let s = c .before .before .before .before .before .before .before .before .before .before .before .before in fours-laid _ (s .args .own) _ _ _ (not-false _ (c .before .before .before .before .before .before .before .before .before .if1 .left)) (c .before .before .before .before .before .before .before .before .if2 .left) (s .pre) (c .before .before .put-four .ensures .holds)
+returns-3 c = let s = c .before .before .before .before .before .before .before .before .before .before .before .before in fours-laid _ (s .args .own) _ _ _ (not-false _ (c .before .before .before .before .before .before .before .before .before .if1 .left)) (c .before .before .before .before .before .before .before .before .if2 .left) (s .pre) (c .before .before .put-four .ensures)
 
 pub put-fours-spec : {M : Type 1} → statement M
 put-fours-spec =
@@ -39,10 +21,10 @@ put-fours-spec =
     (tie.spec
     returns
     returns-2
-    shared-slice-read-t10
-    shared-slice-read-t12
-    shared-slice-read-t14
-    shared-slice-read-t16
-    put-four-requires
-    same-length
+    (λ c. search needs)
+    (λ c. search needs)
+    (λ c. search needs)
+    (λ c. search needs)
+    (λ c κs. search needs)
+    (λ c. search needs)
     returns-3)

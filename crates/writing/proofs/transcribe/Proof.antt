@@ -60,24 +60,9 @@ attributed d = let k = d .before .before .before .before in attributed-here _ _ 
 sub-last : tie.Need-sub-last Inv-loop μ-loop
 sub-last c = omega (arith, c .before .before .pre .1)
 
-u16-at-requires : tie.Need-u16-at-requires Inv-loop μ-loop
-u16-at-requires c κs = search needs
-
-cast-left : tie.Need-cast-left Inv-loop μ-loop
-cast-left c = search needs
-
 loop-holds : tie.Need-loop-holds Inv-loop μ-loop
 loop-holds c = let l = c .before .before .before .args .sheet .now in
     (transcribing-none l _ _ (slice-octets l (c .before .before .shared-slice-known .given)) (c .u16-at .ensures), refl)
-
-head-at-requires : tie.Need-head-at-requires Inv-loop μ-loop
-head-at-requires c κs = search needs
-
-enum-known-number : tie.Need-enum-known-number Inv-loop μ-loop
-enum-known-number c = search needs
-
-least-requires : tie.Need-least-requires Inv-loop μ-loop
-least-requires c κs = search needs
 
 add-behind : tie.Need-add-behind Inv-loop μ-loop
 add-behind c = let k = c .before in omega (arith, after k, within k, k .before .before .before .before .before .before .before .before .before .good)
@@ -88,9 +73,6 @@ sub-rest c = omega (arith, after (c .before), within (c .before))
 part-rest-start : tie.Need-part-rest-start Inv-loop μ-loop
 part-rest-start c = omega (arith, after (c .before), within (c .before))
 
-part-rest-end : tie.Need-part-rest-end Inv-loop μ-loop
-part-rest-end c = search needs
-
 sub-put-attribute : tie.Need-sub-put-attribute Inv-loop μ-loop
 sub-put-attribute c = omega (arith, after (c .before .before .before))
 
@@ -98,9 +80,6 @@ put-attribute-requires : tie.Need-put-attribute-requires Inv-loop μ-loop
 put-attribute-requires c κs = let k = c .before .before .before in
     let m = c .before .before .least .ensures in
     (carried-low _ _ (octets k) _ (says k) _ _ _ _ (item k), (size-is _ _ (octets k) _ (says k) _ _ _ _ (item k), (size-within _ _ (octets k) _ (says k) _ _ _ _ (item k), omega (arith, room k, kept k, m))))
-
-refused-requires : tie.Need-refused-requires Inv-loop μ-loop
-refused-requires c κs = search needs
 
 same-length : tie.Need-same-length Inv-loop μ-loop
 same-length c = let d = c .before .before .before .before in d .put-attribute .kept .0 ∙ kept (d .before .before .before .before)
@@ -126,18 +105,12 @@ loop-again c = let d = c .before .before .before in
     let k = d .before .before .before .before in
     (transcribing-more _ _ _ _ _ (inv k) (some k) (octets k) _ (says k) _ _ _ _ (item k) _ _ _ (attributed d) (c .if1 .left) (room k) (d .before .before .before .least .ensures ∙ ap (λ (n : ℕ). min (k .before .before .before .before .before .loop .written) (n - 263)) (sym (kept k))), d .put-attribute .kept .0 ∙ kept k)
 
-enum-known-refusal : tie.Need-enum-known-refusal Inv-loop μ-loop
-enum-known-refusal c = search needs
-
 same-length-2 : tie.Need-same-length-2 Inv-loop μ-loop
 same-length-2 c = c .before .before .before .before .before .loop .inv .1
 
 returns-2 : tie.Need-returns-2 Inv-loop μ-loop
 returns-2 c = let l = c .before .before .before .before .before .before .before .before .before .args .sheet .now in
     transcribing-refused _ _ _ _ _ (c .before .before .before .before .before .loop .inv .0) (omega (arith, c .before .before .before .before .loop-test .taken)) (slice-octets l (c .before .before .before .before .before .before .before .before .shared-slice-known .given)) _ (c .before .before .before .head-at .ensures) _ _ (c .before .refusal .given .1)
-
-ended-requires : tie.Need-ended-requires Inv-loop μ-loop
-ended-requires c κs = search needs
 
 same-length-3 : tie.Need-same-length-3 Inv-loop μ-loop
 same-length-3 c = c .before .before .loop .inv .1
@@ -153,28 +126,28 @@ transcribe-spec =
     Inv-loop
     μ-loop
     sub-last
-    u16-at-requires
-    cast-left
+    (λ c κs. search needs)
+    (λ c. search needs)
     loop-holds
-    head-at-requires
-    enum-known-number
-    least-requires
+    (λ c κs. search needs)
+    (λ c. search needs)
+    (λ c κs. search needs)
     add-behind
     sub-rest
     part-rest-start
-    part-rest-end
+    (λ c. search needs)
     sub-put-attribute
     put-attribute-requires
-    refused-requires
+    (λ c κs. search needs)
     same-length
     returns
     add-written
     sub-left
     loop-less
     loop-again
-    enum-known-refusal
+    (λ c. search needs)
     same-length-2
     returns-2
-    ended-requires
+    (λ c κs. search needs)
     same-length-3
     returns-3)
