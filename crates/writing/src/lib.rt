@@ -34,6 +34,9 @@ const SHORT_AREA: usize = 377;
 
 const SHORT_ROOM: usize = 640;
 
+// What a writer of a value says where no readable attribute gives the item: more octets than a value can have.
+const NOTHING: usize = 256;
+
 // What writing answers: the octets of the area that stands at the buffer's start, with the kind and flags of the sheet, or a refusal.
 pub enum Writing {
     Area { length: usize, kind: u8, flags: u8 },
@@ -100,7 +103,11 @@ fn put_profile(buf: &mut [u8], at: usize, stored: &[u8])
 fn octet_text(code: u8, x: u8) -> u8
     ensures { λ r. ⌜ r ≡ cond (eqb code 71) x (digitText (x % 16)) ⌝ }
 {
-    if code == 71 { x } else { octets::digit_text(x) }
+    if code == shape::ANY_OCTET {
+        x
+    } else {
+        octets::digit_text(x)
+    }
 }
 
 // Lays decimal digits that stand two to an octet, as text, and says true; false where some half is no digit, or an odd last low half
@@ -130,52 +137,52 @@ fn put_digits(buf: &mut [u8], at: usize, count: usize, stored: &[u8]) -> bool
     true
 }
 
-// Lays four octets of a number or an address, where the item's number is of that form; 256 where it is not.
+// Lays four octets of a number or an address, where the item's number is of that form; `NOTHING` where it is not.
 fn put_fours(buf: &mut [u8], at: usize, own: bool, stored: &[u8]) -> usize
     requires { ⌜ at + 4 ≤ length (now buf) ⌝ }
     ensures { λ r. ⌜ Laying at (own && eqb (length (now (stored .entry))) 4) (now (stored .entry)) (now (buf .entry)) r (now (buf .exit)) ⌝ }
 {
     if !own {
-        return 256;
+        return NOTHING;
     }
     if stored.len() != 4 {
-        return 256;
+        return NOTHING;
     }
     put_four(buf, at, [stored[0], stored[1], stored[2], stored[3]]);
     4
 }
 
-// Lays the digits of an item in form 4 and gives their count; 256 where no readable attribute gives the item.
+// Lays the digits of an item in form 4 and gives their count; `NOTHING` where no readable attribute gives the item.
 fn put_packed(buf: &mut [u8], at: usize, code: u8, count: u8, stored: &[u8]) -> usize
     requires { ⌜ (length (now stored) ≡ packedLength count) × (at + 255 ≤ length (now buf)) ⌝ }
     ensures { λ r. ⌜ Laying at (shaped (shapeBy code) 4 count (now (stored .entry))) (text (unpack count (now (stored .entry)))) (now (buf .entry)) r (now (buf .exit)) ⌝ }
 {
     let n = octets::wide(count);
     if !item::takes_digits(code, count) {
-        return 256;
+        return NOTHING;
     }
     if !put_digits(buf, at, n, stored) {
-        return 256;
+        return NOTHING;
     }
     n
 }
 
-// Lays the text of an item in form 6 and gives its octets; 256 where no readable attribute gives the item.
+// Lays the text of an item in form 6 and gives its octets; `NOTHING` where no readable attribute gives the item.
 fn put_qos(buf: &mut [u8], at: usize, code: u8, stored: &[u8]) -> usize
     requires { ⌜ at + 255 ≤ length (now buf) ⌝ }
     ensures { λ r. ⌜ Laying at (shaped (shapeBy code) 6 (length (now (stored .entry))) (now (stored .entry))) (profileText (now (stored .entry))) (now (buf .entry)) r (now (buf .exit)) ⌝ }
 {
-    if code != 60 {
-        return 256;
+    if code != shape::QOS {
+        return NOTHING;
     }
     if !item::holds_qos(stored) {
-        return 256;
+        return NOTHING;
     }
     put_profile(buf, at, stored);
     1 + 2 * stored.len()
 }
 
-// Lays a value that stands as it is, the first `size` octets of `rest`, and gives its octets; 256 where no readable attribute gives the
+// Lays a value that stands as it is, the first `size` octets of `rest`, and gives its octets; `NOTHING` where no readable attribute gives the
 // item. A short one goes with what stands behind it.
 fn put_raw(
     buf: &mut [u8],
@@ -190,7 +197,7 @@ fn put_raw(
     ensures { λ r. ⌜ Laying at (raw number code form (take size (now (rest .entry)))) (take size (now (rest .entry))) (now (buf .entry)) r (now (buf .exit)) ⌝ }
 {
     if !item::is_raw(number, code, form, &rest[..size]) {
-        return 256;
+        return NOTHING;
     }
     if size <= 16 {
         octets::copy_sixteen(buf, at, rest);
@@ -200,7 +207,7 @@ fn put_raw(
     size
 }
 
-// Lays the value that an item stands for, by the first `size` octets of `rest`, and gives its octets; 256 where no readable attribute
+// Lays the value that an item stands for, by the first `size` octets of `rest`, and gives its octets; `NOTHING` where no readable attribute
 // gives the item.
 fn put_value(
     buf: &mut [u8],
@@ -217,12 +224,12 @@ fn put_value(
 {
     let stored = &rest[..size];
     match form {
-        2 => put_fours(buf, at, code == 20, stored),
-        3 => put_fours(buf, at, code == 30, stored),
+        2 => put_fours(buf, at, code == shape::NUMBER, stored),
+        3 => put_fours(buf, at, code == shape::ADDRESS, stored),
         4 => put_packed(buf, at, code, count, stored),
         5 => {
-            if (code != 50) | (size != 8) {
-                return 256;
+            if (code != shape::HEXADECIMAL) | (size != 8) {
+                return NOTHING;
             }
             octets::unpack_at(buf, at, stored, 16);
             16
@@ -230,7 +237,7 @@ fn put_value(
         6 => put_qos(buf, at, code, stored),
         7 => {
             if !item::is_octet(code, stored) {
-                return 256;
+                return NOTHING;
             }
             buf[at] = octet_text(code, stored[0]);
             1
@@ -256,7 +263,7 @@ fn put_attribute(
     let head = area::head_len(number);
     put_front(buf, at, number);
     let put = put_value(buf, at + head, number, code, form, count, rest, size);
-    if put == 256 {
+    if put == NOTHING {
         return 0;
     }
     put_lengths(buf, at, head, put);
