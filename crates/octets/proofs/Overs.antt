@@ -152,7 +152,8 @@ pub laid-first : (s d : List ℕ) → length s ≤ length d → laidAt 0 s d ≡
 laid-first s d h = laid-fits 0 s d (omega arith)
 
 -- Laid right behind what a buffer holds already, both stand there, one behind the other.
-pub laid-behind : (s t d held : List ℕ) (at : ℕ) → length s ≡ at → held ≡ over s d → at + length t ≤ length d → laidAt at t held ≡ over (s ++ t) d
+pub laid-behind : (s t d held : List ℕ) (at : ℕ) → length s ≡ at → held ≡ over s d → at + length t ≤ length d
+    → laidAt at t held ≡ over (s ++ t) d
 unfolding over
 laid-behind s t d held at n e h =
     let size : length (over s d) ≡ length d = over-length s d (omega arith) in
@@ -161,7 +162,8 @@ laid-behind s t d held at n e h =
     ∙ rw (take-at s (drop (length s) d) at n, drop-at s (drop (length s) d) at n, drop-drop (length t) (length s) d, length-append s t, append-assoc s t)
 
 -- So a part of what is written, laid right behind what was written of it, is written too.
-pub overlaid-part : (s d out t o : List ℕ) (i n j : ℕ) → Overlaid s d out i → j ≡ i + n → j ≤ length s → t ≡ partOf s i n → o ≡ laidAt i t out → Overlaid s d o j
+pub overlaid-part : (s d out t o : List ℕ) (i n j : ℕ) → Overlaid s d out i → j ≡ i + n → j ≤ length s → t ≡ partOf s i n
+    → o ≡ laidAt i t out → Overlaid s d o j
 unfolding partOf
 overlaid-part s d out t o i n j w j-is h p q =
     let part : t ≡ take n (drop i s) = p in
@@ -218,7 +220,8 @@ module _ (at : ℕ) (s d : List ℕ) (room : at + length s ≤ length d) where
   each-laid n e = pasted-all at s d (eachTo at s d n) (suc n) (each-pasted n (omega arith)) (omega arith)
 
 -- Laid one behind the other, two pieces stand as one.
-pub laid-two : (at n : ℕ) (s t d : List ℕ) → length s ≡ n → at + (n + length t) ≤ length d → laidAt (at + n) t (laidAt at s d) ≡ laidAt at (s ++ t) d
+pub laid-two : (at n : ℕ) (s t d : List ℕ) → length s ≡ n → at + (n + length t) ≤ length d
+    → laidAt (at + n) t (laidAt at s d) ≡ laidAt at (s ++ t) d
 unfolding over
 laid-two at n s t d size fits =
     let front : List ℕ = take at d in
@@ -236,7 +239,8 @@ laid-two at n s t d size fits =
     ∙ sym (laid-fits at (s ++ t) d (omega arith)))
 
 -- So do two parts of s, as one part.
-pub laid-parts : (at n m : ℕ) (s d k l held out : List ℕ) → n + m ≤ length s → at + (n + m) ≤ length d → k ≡ partOf s 0 n → l ≡ partOf s n m → held ≡ laidAt at k d → out ≡ laidAt (at + n) l held → Laid at (partOf s 0 (n + m)) d true out
+pub laid-parts : (at n m : ℕ) (s d k l held out : List ℕ) → n + m ≤ length s → at + (n + m) ≤ length d → k ≡ partOf s 0 n → l ≡ partOf s n m
+    → held ≡ laidAt at k d → out ≡ laidAt (at + n) l held → Laid at (partOf s 0 (n + m)) d true out
 unfolding partOf
 laid-parts at n m s d k l held out h room ek el eh eo =
     let size : length (take (n + m) s) ≡ n + m = length-take-le (n + m) s h in
@@ -270,7 +274,8 @@ module _ (at : ℕ) (s d : List ℕ) (n : ℕ) (fit : Bool) (size : n ≡ length
   laid-not e = record { says = sym e ∙ fit-is; holds = sym (laid-none at s d (sym fit-is ∙ e)) }
 
   -- `putMid` is how the borrow checker puts a lent part back: what was laid over the start of the part, said of the whole
-  pub laid-part : (p : List ℕ) → fit ≡ true → p ≡ over s (take (length d - at) (drop at d)) → Laid at s d true (putMid at (length d - at) d p)
+  pub laid-part : (p : List ℕ) → fit ≡ true → p ≡ over s (take (length d - at) (drop at d))
+      → Laid at s d true (putMid at (length d - at) d p)
   laid-part p e q =
       let room : at + n ≤ length d = laid-room e in
       let all : take (length d - at) (drop at d) ≡ drop at d = take-all (length d - at) (drop at d) (omega (arith, length-drop at d)) in
@@ -284,9 +289,11 @@ module _ (at : ℕ) (s d : List ℕ) (n : ℕ) (fit : Bool) (size : n ≡ length
 pub laid-short : (at : ℕ) (s d : List ℕ) → length d < at + length s → Laid at s d false d
 laid-short at s d h = laid-not at s d (length s) _ refl refl (lt-leb (at + length s) (length d) h)
 
-pub laid-there : (at : ℕ) (s d p : List ℕ) → at + length s ≤ length d → p ≡ over s (take (length d - at) (drop at d)) → Laid at s d true (putMid at (length d - at) d p)
+pub laid-there : (at : ℕ) (s d p : List ℕ) → at + length s ≤ length d → p ≡ over s (take (length d - at) (drop at d))
+    → Laid at s d true (putMid at (length d - at) d p)
 laid-there at s d p h q = laid-part at s d (length s) _ refl refl p (le-leb (at + length s) (length d) h) q
 
 -- Any two answers that a writer's promise permits are the same, the buffer included.
-pub one-laid : (at : ℕ) (s d : List ℕ) (said said′ : Bool) (held held′ : List ℕ) → Laid at s d said held → Laid at s d said′ held′ → (said ≡ said′) × (held ≡ held′)
+pub one-laid : (at : ℕ) (s d : List ℕ) (said said′ : Bool) (held held′ : List ℕ) → Laid at s d said held → Laid at s d said′ held′
+    → (said ≡ said′) × (held ≡ held′)
 one-laid at s d said said′ held held′ p q = (p .says ∙ sym (q .says), p .holds ∙ sym (q .holds))

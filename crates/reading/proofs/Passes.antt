@@ -62,7 +62,9 @@ plain-part : (f : ℕ) (v s : List ℕ) (p q : Part) → valueBy f v s p ≡ Pla
 unfolding valueBy
 plain-part f v s p q e = go (eqb f 2) (eqb f 3) (eqb f 4) (eqb f 7) e
   where
-    go : (a b c d : Bool) → cond a (Number (numberOf v)) (cond b (Address (numberOf v)) (cond c Digits (cond d (Number (numberOf s)) (Plain p)))) ≡ Plain q → p ≡ q
+    go : (a b c d : Bool)
+        → cond a (Number (numberOf v)) (cond b (Address (numberOf v)) (cond c Digits (cond d (Number (numberOf s)) (Plain p)))) ≡ Plain q
+        → p ≡ q
     go true b c d h = absurd (let z : _≡_ {A = ℕ} 0 1 = cc in omega arith)
     go false true c d h = absurd (let z : _≡_ {A = ℕ} 0 1 = cc in omega arith)
     go false false true d h = absurd (let z : _≡_ {A = ℕ} 0 1 = cc in omega arith)
@@ -94,7 +96,8 @@ module _ (l : List ℕ) (place n : ℕ) (p : Part) (behind : ℕ) (g : Stands l 
   number-low = g .carried o .low
 
   -- and its names have room
-  pub names-fit : (d out : List ℕ) (count written : ℕ) → Passing l d out place count written → 2 * length l + 16 ≤ length d → written + 2 ≤ length out
+  pub names-fit : (d out : List ℕ) (count written : ℕ) → Passing l d out place count written → 2 * length l + 16 ≤ length d
+      → written + 2 ≤ length out
   names-fit d out count written k room = omega (arith, k .few, k .held .kept, g .onwards, g .inside)
 
   -- the item of the attribute
@@ -136,7 +139,8 @@ module _ (l : List ℕ) (place n : ℕ) (p : Part) (behind : ℕ) (g : Stands l 
         names-begun = begun-as written (namesOf n) _ out named (ap (λ (j : Item). namesOf (j .number)) item-made) (begun-laid written (namesOf n) out named (names-fit d out count written k room) first)
 
         -- it was put there
-        module _ (size : ℕ) (after : List ℕ) (says : (b : List ℕ) → Begun written (namesOf (i .number)) b named → LaidCounted written (itemIn l i) b size after) where
+        module _ (size : ℕ) (after : List ℕ)
+            (says : (b : List ℕ) → Begun written (namesOf (i .number)) b named → LaidCounted written (itemIn l i) b size after) where
           put : LaidCounted written (itemIn l i) out size after
           put = says out names-begun
 

@@ -4,6 +4,7 @@ use mathlib.Core.List.{List, _++_}
 use Prim.Native.Nat.{ℕ, _+_, _*_, _≤_, _<_}
 use native.Mathlib.Omega.{arith}
 use lib.ListN.{length, take, length-append}
+use lib.Seq.{length-take-le}
 use Rattle.meaning.specs.Octets.{Octets, octetsOf}
 use Rattle.meaning.specs.Framing.{walk, attributes}
 use Rattle.meaning.specs.Refusals.{none, fault, areaRefusal, areaOrder}
@@ -23,7 +24,7 @@ use Rattle.reading.specs.declared.Reading.{Reading}
 use Rattle.reading.specs.declared.Reading.the-variants.{Sheet, Refused}
 use Rattle.reading.specs.declared.Tally.{Tally}
 use Rattle.reading.specs.declared.Tally.the-variants.{Whole, Broken}
-use Rattle.reading.specs.Items.{sheetHead, areaItems, ItemsLaid, PassSays}
+use Rattle.reading.specs.Items.{sheetHead, areaItems, ItemsLaid, PassSays, Concluding}
 use Rattle.reading.specs.Answers.{readingOf, Read}
 
 -- a sheet is its head and its items
@@ -69,20 +70,24 @@ pub arrived-short : (kind flags : ℕ) (area : List ℕ) → arrivalOf kind flag
 arrived-short kind flags area fit = fit-arrived kind flags area (arrivalOf kind flags (length area)) refl fit .short
 
 -- Nothing of 1 to 3 applies.
-module _ (kind flags : ℕ) (area : List ℕ) (fit : arrivalOf kind flags (length area) ≡ Fit) (r : Tally) (made : List ℕ) (says : PassSays area r made) where
+module _ (kind flags : ℕ) (area : List ℕ) (r : Tally) (made : List ℕ) (k : Concluding kind flags area r made) where
   left : areaRefusal kind flags area ≡ fault (walk area)
-  left = fit-arrived kind flags area (arrivalOf kind flags (length area)) refl fit .left
+  left = fit-arrived kind flags area (arrivalOf kind flags (length area)) refl (k .fit) .left
 
   -- the first of 4 to 8
   pub framing-refused : (x : Refusal) (d : List ℕ) → r ≡ Broken x → Read kind flags area d (Refused x) d
   unfolding PassSays
-  framing-refused x d q = refused-read kind flags area x d (left ∙ subst (λ (t : Tally). PassSays area t made) q says)
+  framing-refused x d q = refused-read kind flags area x d (left ∙ subst (λ (t : Tally). PassSays area t made) q (k .says))
 
   -- none of them: the items are laid
   module _ (count written : ℕ) (q : r ≡ Whole count written) where
-    pub laid : ItemsLaid area count written made
+    laid : ItemsLaid area count written made
     unfolding PassSays
-    laid = subst (λ (t : Tally). PassSays area t made) q says
+    laid = subst (λ (t : Tally). PassSays area t made) q (k .says)
+
+    -- they stand in the buffer
+    pub items-long : length (take written made) ≡ written
+    items-long = length-take-le written made (omega (arith, laid .few, k .room))
 
     accepted : areaRefusal kind flags area ≡ none
     accepted = left ∙ laid .sound

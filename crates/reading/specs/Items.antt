@@ -9,7 +9,8 @@ use Rattle.meaning.specs.Refusals.{none, fault}
 use Rattle.meaning.specs.Sheet.{typeOf, subOf, mark, itemsOf}
 use Rattle.octets.specs.Parts.{Begun}
 use Rattle.area.specs.declared.Part.{Part}
-use Rattle.area.specs.Answers.{inBook}
+use Rattle.area.specs.declared.Arrival.the-variants.{Fit}
+use Rattle.area.specs.Answers.{inBook, arrivalOf}
 use Rattle.shape.specs.declared.Item.{Item}
 use Rattle.shape.specs.declared.Value.the-variants.{Plain}
 use Rattle.shape.specs.Items.{storedIn}
@@ -55,3 +56,9 @@ pub record ItemsLaid (area : List ℕ) (count written : ℕ) (held : List ℕ) :
 unfoldable pub PassSays : (area : List ℕ) → Tally → (held : List ℕ) → Type 0
 PassSays area (Whole count written) held = ItemsLaid area count written held
 PassSays area (Broken r) held = fault (walk area) ≡ inBook r
+
+-- a pass over an area that comes with a fit kind, flags and length, and a buffer with room for the items of any so long
+pub record Concluding (kind flags : ℕ) (area : List ℕ) (tally : Tally) (made : List ℕ) : Type 0 where
+  pub fit : arrivalOf kind flags (length area) ≡ Fit
+  pub says : PassSays area tally made
+  pub room : 2 * length area ≤ length made

@@ -18,7 +18,7 @@ ghost use Rattle.octets.specs.DigitStrings.{halves};
 ghost use Rattle.area.specs.Answers.{arrivalOf};
 ghost use Rattle.area.specs.declared.Arrival.the-variants.{Fit};
 ghost use Rattle.shape.specs.Items.{storedPart, storedIn};
-ghost use Rattle.reading.specs.Items.{namesOf, itemIn, Within, LaidCounted, sheetHead, PassSays};
+ghost use Rattle.reading.specs.Items.{namesOf, itemIn, Within, LaidCounted, sheetHead, PassSays, Concluding};
 ghost use Rattle.reading.specs.Answers.{readingOf, Read};
 
 // "A sheet is never longer than 9 + 2 x area length": room for the items of any area, of up to 4,076 octets, and for sixteen octets more.
@@ -92,7 +92,9 @@ fn put_number(buf: &mut [u8], at: usize, form: u8, n: u32) -> usize
 // Lays a QoS profile: the release octet, then its hexadecimal digits two to an octet.
 fn put_qos(buf: &mut [u8], at: usize, text: &[u8]) -> usize
     requires { ⌜ (3 ≤ length (now text)) × (at + (1 + packedLength (length (now text) - 3)) ≤ length (now buf)) ⌝ }
-    ensures { λ r. ⌜ LaidCounted at (((digitValue (getD (now (text .entry)) 0 0) * 10 + digitValue (getD (now (text .entry)) 1 0)) % 256) ∷ pack (halves (drop 3 (now (text .entry))))) (now (buf .entry)) r (now (buf .exit)) ⌝ }
+    ensures { λ r. ⌜ LaidCounted at
+        (((digitValue (getD (now (text .entry)) 0 0) * 10 + digitValue (getD (now (text .entry)) 1 0)) % 256) ∷ pack
+        (halves (drop 3 (now (text .entry))))) (now (buf .entry)) r (now (buf .exit)) ⌝ }
 {
     let release = [release_of(text)];
     octets::copy_at(buf, at, &release);
@@ -103,7 +105,8 @@ fn put_qos(buf: &mut [u8], at: usize, text: &[u8]) -> usize
 // Lays plain octets, the first `len` of `rest`: as they stand, in form 5 as packed text, in form 6 as a QoS profile. With sixteen octets
 // of room behind them, which may change: a few go with what stands behind them.
 fn put_part(buf: &mut [u8], at: usize, form: u8, rest: &[u8], len: usize) -> usize
-    requires { ⌜ (form ≡ 6 → 3 ≤ len) × ((len ≤ length (now rest)) × (at + length (storedPart form (take len (now rest))) + 16 ≤ length (now buf))) ⌝ }
+    requires { ⌜ (form ≡ 6 → 3 ≤ len) ×
+        ((len ≤ length (now rest)) × (at + length (storedPart form (take len (now rest))) + 16 ≤ length (now buf))) ⌝ }
     ensures { λ r. ⌜ LaidCounted at (storedPart form (take len (now (rest .entry)))) (now (buf .entry)) r (now (buf .exit)) ⌝ }
 {
     if form == 5 {
@@ -166,7 +169,8 @@ fn put_names(buf: &mut [u8], at: usize, number: u16)
 // behind it, and its form and count before that.
 fn put_item(buf: &mut [u8], at: usize, area: &[u8], item: Item) -> usize
     requires { ⌜ (item .count < 256) × Within (now area) item × (at + length (itemIn (now area) item) + 16 ≤ length (now buf)) ⌝ }
-    ensures { λ r. ⌜ ((d : List ℕ) → Begun at (namesOf (item .number)) d (now (buf .entry)) → LaidCounted at (itemIn (now (area .entry)) item) d r (now (buf .exit))) ⌝ }
+    ensures { λ r. ⌜ ((d : List ℕ) → Begun at (namesOf (item .number)) d (now (buf .entry)) → LaidCounted at
+        (itemIn (now (area .entry)) item) d r (now (buf .exit))) ⌝ }
 {
     let size = put_stored(buf, at + 4, area, item);
     buf[at + 2] = item.form;
@@ -245,18 +249,25 @@ fn hand_over(kind: u32, flags: u32, count: usize, items: &[u8], sheet: &mut [u8]
     Reading::Sheet(needed)
 }
 
-// The sheet of an area that comes with a fit kind, flags and length, or the first of refusals 4 to 9. Its items are laid into a buffer of
-// its own and copied from there, so that nothing is written before every refusal is ruled out.
-fn read_by(area: &[u8], kind: u32, flags: u32, buf: &mut [u8], sheet: &mut [u8]) -> Reading
-    requires { ⌜ (arrivalOf kind flags (length (now area)) ≡ Fit) × (2 * length (now area) + 16 ≤ length (now buf)) ⌝ }
+// What an area that comes with a fit kind, flags and length is answered, by what the pass over it gave: the first of refusals 4 to 8, or the
+// sheet, whose items are copied from the buffer in which they were laid, so that nothing is written before every refusal is ruled out.
+fn conclude(
+    area: &[u8],
+    kind: u32,
+    flags: u32,
+    tally: Tally,
+    made: &[u8],
+    sheet: &mut [u8],
+) -> Reading
+    requires { ⌜ Concluding kind flags (now area) tally (now made) ⌝ }
     ensures { λ r. ⌜ Read kind flags (now (area .entry)) (now (sheet .entry)) r (now (sheet .exit)) ⌝ }
 {
-    match put_items(area, buf) {
+    match tally {
         Tally::Broken(refusal) => {
             return Reading::Refused(refusal);
         }
         Tally::Whole { count, written } => {
-            return hand_over(kind, flags, count, &buf[..written], sheet);
+            return hand_over(kind, flags, count, &made[..written], sheet);
         }
     }
 }
@@ -272,10 +283,12 @@ pub fn read(area: &[u8], kind: u32, flags: u32, sheet: &mut [u8]) -> Reading
         Arrival::Fit => {
             if area.len() <= SHORT_AREA {
                 let mut buf = [0u8; SHORT_ROOM];
-                return read_by(area, kind, flags, &mut buf, sheet);
+                let tally = put_items(area, &mut buf);
+                return conclude(area, kind, flags, tally, &buf, sheet);
             }
             let mut buf = [0u8; ROOM];
-            return read_by(area, kind, flags, &mut buf, sheet);
+            let tally = put_items(area, &mut buf);
+            return conclude(area, kind, flags, tally, &buf, sheet);
         }
     }
 }

@@ -22,7 +22,7 @@ use Rattle.item.specs.Stands.{standsAs}
 use Rattle.item.specs.Answers.{enteredAt, headedAt}
 use Rattle.item.proofs.Entering.{a-refusal}
 use Rattle.writing.specs.declared.Judgement.the-variants as judgement
-use Rattle.writing.specs.Attributes.{valueAs, Attributed}
+use Rattle.writing.specs.Attributes.{span, valueAs, Attributed}
 use Rattle.writing.specs.Answers.{refusedAs, judgementFrom, itemsRefusal, endedAs, sizeOf, Transcribed}
 use Rattle.writing.proofs.Putting.{head-two, attribute-long}
 use Rattle.writing.proofs.Entries.{Entry, stored-here, no-entry, entry-here}
@@ -36,7 +36,7 @@ pub record Transcribing (l out : List ℕ) (left place written : ℕ) : Type 0 w
   pub faults : fault (itemsIn l) ≡ fault (itemsAt l left place)
   pub long : length gone ≡ written
   pub few : written + 256 * left ≤ 256 * 65535
-  pub held : written + 263 ≤ length out → take written out ≡ gone
+  pub held : written + span ≤ length out → take written out ≡ gone
 
 -- the number of items in two octets
 announced-low : (l : List ℕ) (left : ℕ) → Octets l → left ≡ numberOf (partOf l 7 2) → left ≤ 65535
@@ -77,7 +77,8 @@ broken-here l out left place written k j some e =
 pub refused-by : (by : book.Refusal) (l out : List ℕ) (n s : ℕ) → by ≡ refusal n s → Transcribed by l (refusedAs n s) out
 refused-by by l out n s e = record { says = rw e; holds = λ q. absurd (let z : _≡_ {A = ℕ} 0 1 = cc in omega arith) }
 
-module _ (l d : List ℕ) (left place written : ℕ) (j : Transcribing l d left place written) (some : 0 < left) (o : Octets l) (r : Headed) (says : r ≡ headedAt l place) where
+module _ (l d : List ℕ) (left place written : ℕ) (j : Transcribing l d left place written) (some : 0 < left) (o : Octets l) (r : Headed)
+    (says : r ≡ headedAt l place) where
   -- a head that is refused
   pub transcribing-refused : (out : List ℕ) (x : Refusal) → r ≡ Refused x → Transcribed (itemsRefusal l) l (judgement.Refused x) out
   transcribing-refused out x q =
@@ -85,7 +86,8 @@ module _ (l d : List ℕ) (left place written : ℕ) (j : Transcribing l d left 
       refused-by (itemsRefusal l) l out (x .number) (x .second) (broken-here l d left place written (x .number) j some (a .0) ∙ ap (refusal (x .number)) (sym (a .1)))
 
   -- an item, and what the writer of its attribute answered
-  module _ (n f c behind : ℕ) (q : r ≡ Item n f c behind) (at put : ℕ) (out : List ℕ) (v : Attributed at n f c (stored-here l place o r says n f c behind q) d put out) where
+  module _ (n f c behind : ℕ) (q : r ≡ Item n f c behind) (at put : ℕ) (out : List ℕ)
+      (v : Attributed at n f c (stored-here l place o r says n f c behind q) d put out) where
     -- the octets that it stores
     abbrev st : List ℕ
     st = stored-here l place o r says n f c behind q
@@ -120,7 +122,7 @@ module _ (l d : List ℕ) (left place written : ℕ) (j : Transcribing l d left 
       pub put-short : put < 256
       put-short = omega (arith, e .short, put-is)
 
-      pub transcribing-more : 263 ≤ length d → at ≡ min written (length d - 263) → Transcribing l out (left - 1) behind (written + put)
+      pub transcribing-more : span ≤ length d → at ≡ min written (length d - span) → Transcribing l out (left - 1) behind (written + put)
       unfolding fault attributes areaOf
       transcribing-more room place-is =
           let b = v .is (stands h) in

@@ -26,6 +26,7 @@ use Rattle.writing.specs.declared.Judgement.{Judgement}
 use Rattle.writing.specs.declared.Judgement.the-variants as judgement
 use Rattle.writing.specs.declared.Writing.{Writing}
 use Rattle.writing.specs.declared.Writing.the-variants.{Area, Refused}
+use Rattle.writing.specs.Attributes.{span}
 use Rattle.writing.specs.Answers.{refusedAs, judgementFrom, judgementBy, itemsRefusal, sizeOf, Transcribed, areaSaid, HandedOver, writingOf, Wrote}
 use Rattle.writing.proofs.Transcribing.{refused-by}
 
@@ -104,7 +105,7 @@ answered (refusal n s) w d said held p = p
 
 -- What is handed over of a judged sheet, by a buffer with room behind its area, is what writing answers.
 pub written : (l made d : List ℕ) (j : Judgement) (said : Writing) (held : List ℕ) → Transcribed (judged l) l j made
-    → sizeOf j + 263 ≤ length made → HandedOver j made d said held → Wrote l d said held
+    → sizeOf j + span ≤ length made → HandedOver j made d said held → Wrote l d said held
 unfolding writeAnswer HandedOver handing sizeOf areaAnswer after
 written l made d j said held t room h = go (judged l) refl (t .says)
   where

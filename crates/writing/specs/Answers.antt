@@ -8,6 +8,7 @@ use Rattle.meaning.specs.Refusals as book
 use Rattle.meaning.specs.Sheet.{itemsIn, kindIn, flagsIn, areaIn, judged}
 use Rattle.meaning.specs.Answers as meant
 use Rattle.octets.specs.Handing.{Handed}
+use Rattle.writing.specs.Attributes.{span}
 use Rattle.writing.specs.declared.Judgement.{Judgement}
 use Rattle.writing.specs.declared.Judgement.the-variants as judgement
 use Rattle.writing.specs.declared.Writing.{Writing}
@@ -50,7 +51,7 @@ sizeOf (judgement.Refused r) = 0
 -- has room behind the area for one attribute more with its head
 pub record Transcribed (by : book.Refusal) (sheet : List ℕ) (said : Judgement) (buf : List ℕ) : Type 0 where
   pub says : said ≡ judgementBy by sheet
-  pub holds : by ≡ book.none → sizeOf said + 263 ≤ length buf → take (sizeOf said) buf ≡ areaIn sheet
+  pub holds : by ≡ book.none → sizeOf said + span ≤ length buf → take (sizeOf said) buf ≡ areaIn sheet
 
 -- ---- What is written
 

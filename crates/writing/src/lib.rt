@@ -14,7 +14,7 @@ ghost use Rattle.octets.specs.Parts.{laidAt};
 ghost use Rattle.meaning.specs.Framing.{headLength};
 ghost use Rattle.shape.specs.Codes.{codeOf, shapeBy};
 ghost use Rattle.item.specs.Stands.{raw, shaped, standsAs};
-ghost use Rattle.writing.specs.Attributes.{profileText, valueAs, attributeFront, lengthsAt, Digited, Laying, Attributed};
+ghost use Rattle.writing.specs.Attributes.{span, profileText, valueAs, attributeFront, lengthsAt, Digited, Laying, Attributed};
 ghost use Rattle.writing.specs.Answers.{refusedAs, endedAs, itemsRefusal, Transcribed, judgementOf, sizeOf, HandedOver, Wrote};
 
 // 24: "the attribute area would exceed 4,076 octets".
@@ -140,7 +140,8 @@ fn put_digits(buf: &mut [u8], at: usize, count: usize, stored: &[u8]) -> bool
 // Lays four octets of a number or an address, where the item's number is of that form; `NOTHING` where it is not.
 fn put_fours(buf: &mut [u8], at: usize, own: bool, stored: &[u8]) -> usize
     requires { ⌜ at + 4 ≤ length (now buf) ⌝ }
-    ensures { λ r. ⌜ Laying at (own && eqb (length (now (stored .entry))) 4) (now (stored .entry)) (now (buf .entry)) r (now (buf .exit)) ⌝ }
+    ensures { λ r. ⌜ Laying at (own && eqb (length (now (stored .entry))) 4) (now (stored .entry)) (now (buf .entry)) r
+        (now (buf .exit)) ⌝ }
 {
     if !own {
         return NOTHING;
@@ -155,7 +156,8 @@ fn put_fours(buf: &mut [u8], at: usize, own: bool, stored: &[u8]) -> usize
 // Lays the digits of an item in form 4 and gives their count; `NOTHING` where no readable attribute gives the item.
 fn put_packed(buf: &mut [u8], at: usize, code: u8, count: u8, stored: &[u8]) -> usize
     requires { ⌜ (length (now stored) ≡ packedLength count) × (at + 255 ≤ length (now buf)) ⌝ }
-    ensures { λ r. ⌜ Laying at (shaped (shapeBy code) 4 count (now (stored .entry))) (text (unpack count (now (stored .entry)))) (now (buf .entry)) r (now (buf .exit)) ⌝ }
+    ensures { λ r. ⌜ Laying at (shaped (shapeBy code) 4 count (now (stored .entry))) (text (unpack count (now (stored .entry))))
+        (now (buf .entry)) r (now (buf .exit)) ⌝ }
 {
     let n = octets::wide(count);
     if !item::takes_digits(code, count) {
@@ -170,7 +172,8 @@ fn put_packed(buf: &mut [u8], at: usize, code: u8, count: u8, stored: &[u8]) -> 
 // Lays the text of an item in form 6 and gives its octets; `NOTHING` where no readable attribute gives the item.
 fn put_qos(buf: &mut [u8], at: usize, code: u8, stored: &[u8]) -> usize
     requires { ⌜ at + 255 ≤ length (now buf) ⌝ }
-    ensures { λ r. ⌜ Laying at (shaped (shapeBy code) 6 (length (now (stored .entry))) (now (stored .entry))) (profileText (now (stored .entry))) (now (buf .entry)) r (now (buf .exit)) ⌝ }
+    ensures { λ r. ⌜ Laying at (shaped (shapeBy code) 6 (length (now (stored .entry))) (now (stored .entry)))
+        (profileText (now (stored .entry))) (now (buf .entry)) r (now (buf .exit)) ⌝ }
 {
     if code != shape::QOS {
         return NOTHING;
@@ -182,8 +185,8 @@ fn put_qos(buf: &mut [u8], at: usize, code: u8, stored: &[u8]) -> usize
     1 + 2 * stored.len()
 }
 
-// Lays a value that stands as it is, the first `size` octets of `rest`, and gives its octets; `NOTHING` where no readable attribute gives the
-// item. A short one goes with what stands behind it.
+// Lays a value that stands as it is, the first `size` octets of `rest`, and gives its octets; `NOTHING` where no readable attribute gives
+// the item. A short one goes with what stands behind it.
 fn put_raw(
     buf: &mut [u8],
     at: usize,
@@ -194,7 +197,8 @@ fn put_raw(
     size: usize,
 ) -> usize
     requires { ⌜ (size ≤ length (now rest)) × (at + 255 ≤ length (now buf)) ⌝ }
-    ensures { λ r. ⌜ Laying at (raw number code form (take size (now (rest .entry)))) (take size (now (rest .entry))) (now (buf .entry)) r (now (buf .exit)) ⌝ }
+    ensures { λ r. ⌜ Laying at (raw number code form (take size (now (rest .entry)))) (take size (now (rest .entry))) (now (buf .entry)) r
+        (now (buf .exit)) ⌝ }
 {
     if !item::is_raw(number, code, form, &rest[..size]) {
         return NOTHING;
@@ -219,8 +223,10 @@ fn put_value(
     rest: &[u8],
     size: usize,
 ) -> usize
-    requires { ⌜ (code ≡ codeOf (shapeOf number)) × ((size ≡ storedLength form count) × ((size ≤ length (now rest)) × (at + 255 ≤ length (now buf)))) ⌝ }
-    ensures { λ r. ⌜ Laying at (standsAs number form count (take size (now (rest .entry)))) (valueAs number form count (take size (now (rest .entry)))) (now (buf .entry)) r (now (buf .exit)) ⌝ }
+    requires { ⌜ (code ≡ codeOf (shapeOf number)) ×
+        ((size ≡ storedLength form count) × ((size ≤ length (now rest)) × (at + 255 ≤ length (now buf)))) ⌝ }
+    ensures { λ r. ⌜ Laying at (standsAs number form count (take size (now (rest .entry))))
+        (valueAs number form count (take size (now (rest .entry)))) (now (buf .entry)) r (now (buf .exit)) ⌝ }
 {
     let stored = &rest[..size];
     match form {
@@ -256,7 +262,7 @@ fn put_attribute(
     rest: &[u8],
     size: usize,
 ) -> usize
-    requires { ⌜ (number < 512) × ((size ≡ storedLength form count) × ((size ≤ length (now rest)) × (at + 263 ≤ length (now buf)))) ⌝ }
+    requires { ⌜ (number < 512) × ((size ≡ storedLength form count) × ((size ≤ length (now rest)) × (at + span ≤ length (now buf)))) ⌝ }
     ensures { λ r. ⌜ Attributed at number form count (take size (now (rest .entry))) (now (buf .entry)) r (now (buf .exit)) ⌝ }
 {
     let code = shape::code_of(number);
@@ -309,7 +315,7 @@ fn ended(sheet: &[u8], place: usize, size: usize) -> Judgement
 // Tests and lays the items of a sheet from the left, and says what is to be said of them. An item that begins behind the last place where
 // any has room is laid at that place again and again, and counted.
 fn transcribe(sheet: &[u8], buf: &mut [u8]) -> Judgement
-    requires { ⌜ (9 ≤ length (now sheet)) × (263 ≤ length (now buf)) ⌝ }
+    requires { ⌜ (9 ≤ length (now sheet)) × (span ≤ length (now buf)) ⌝ }
     ensures { λ r. ⌜ Transcribed (itemsRefusal (now (sheet .entry))) (now (sheet .entry)) r (now (buf .exit)) ⌝ }
 {
     let last = buf.len() - SPAN;
@@ -345,7 +351,7 @@ fn transcribe(sheet: &[u8], buf: &mut [u8]) -> Judgement
 
 // "For write: 20, 21, items from the left": the first of 20 to 24, or that the sheet is written; its area is laid into a buffer.
 fn judge_by(sheet: &[u8], buf: &mut [u8]) -> Judgement
-    requires { ⌜ 263 ≤ length (now buf) ⌝ }
+    requires { ⌜ span ≤ length (now buf) ⌝ }
     ensures { λ r. ⌜ Transcribed (judged (now (sheet .entry))) (now (sheet .entry)) r (now (buf .exit)) ⌝ }
 {
     if !is_marked(sheet) {

@@ -45,7 +45,8 @@ valued : (k : tie.After-put-value) →
     Laying (a .at + headLength (a .number)) (standsAs (a .number) (a .form) (a .count) st) (valueAs (a .number) (a .form) (a .count) st) (k .before .before .before .before .put-front .last .0) (k .put-value .result) (k .put-value .last .0))
 valued k = rw (head (headed k)) at (k .put-value .ensures)
 
-short : (k : tie.After-put-value) → (k .put-value .result ≡ 256 → ⊥) → headLength (start (headed k) .args .number) + k .put-value .result < 256
+short : (k : tie.After-put-value) → (k .put-value .result ≡ 256 → ⊥)
+    → headLength (start (headed k) .args .number) + k .put-value .result < 256
 short k h = put-short _ _ _ _ (octets (headed k)) (long (start (headed k))) _ _ _ _ (valued k) h
 
 put-front-requires : tie.Need-put-front-requires

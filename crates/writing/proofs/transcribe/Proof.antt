@@ -21,29 +21,37 @@ abbrev μ-loop : tie.MeasureT-loop
 μ-loop sheet buf₀ last left₀ place₀ written₀ buf left place written = left
 
 -- what is known of a turn whose head is that of an item: the invariant, that items are left, that the sheet holds octets
-inv : (k : tie.After-known-told Inv-loop μ-loop) → Transcribing (k .before .before .before .before .before .before .before .before .before .args .sheet .now) (k .before .before .before .before .before .loop .buf) (k .before .before .before .before .before .loop .left) (k .before .before .before .before .before .loop .place) (k .before .before .before .before .before .loop .written)
+inv : (k : tie.After-known-told Inv-loop μ-loop)
+    → Transcribing (k .before .before .before .before .before .before .before .before .before .args .sheet .now)
+    (k .before .before .before .before .before .loop .buf) (k .before .before .before .before .before .loop .left)
+    (k .before .before .before .before .before .loop .place) (k .before .before .before .before .before .loop .written)
 inv k = k .before .before .before .before .before .loop .inv .0
 
-kept : (k : tie.After-known-told Inv-loop μ-loop) → length (k .before .before .before .before .before .loop .buf) ≡ length (k .before .before .before .before .before .before .before .before .before .args .buf .now)
+kept : (k : tie.After-known-told Inv-loop μ-loop)
+    → length (k .before .before .before .before .before .loop .buf) ≡ length (k .before .before .before .before .before .before .before .before .before .args .buf .now)
 kept k = k .before .before .before .before .before .loop .inv .1
 
 some : (k : tie.After-known-told Inv-loop μ-loop) → 0 < k .before .before .before .before .before .loop .left
 some k = omega (arith, k .before .before .before .before .loop-test .taken)
 
-octets : (k : tie.After-known-told Inv-loop μ-loop) → Octets (k .before .before .before .before .before .before .before .before .before .args .sheet .now)
+octets : (k : tie.After-known-told Inv-loop μ-loop)
+    → Octets (k .before .before .before .before .before .before .before .before .before .args .sheet .now)
 octets k = slice-octets (k .before .before .before .before .before .before .before .before .before .args .sheet .now) (k .before .before .before .before .before .before .before .before .shared-slice-known .given)
 
 -- the head, and that it is an item's
-says : (k : tie.After-known-told Inv-loop μ-loop) → k .before .before .before .head-at .result ≡ headedAt (k .before .before .before .before .before .before .before .before .before .args .sheet .now) (k .before .before .before .before .before .loop .place)
+says : (k : tie.After-known-told Inv-loop μ-loop)
+    → k .before .before .before .head-at .result ≡ headedAt (k .before .before .before .before .before .before .before .before .before .args .sheet .now) (k .before .before .before .before .before .loop .place)
 says k = k .before .before .before .head-at .ensures
 
 item : (k : tie.After-known-told Inv-loop μ-loop) → (let f = k .before .number .given .0 in k .before .before .before .head-at .result ≡ Item (f .0) (f .1 .0) (f .1 .1 .0) (f .1 .1 .1 .0))
 item k = k .before .number .given .1
 
-after : (k : tie.After-known-told Inv-loop μ-loop) → k .before .before .before .before .before .loop .place + 4 ≤ k .before .number .given .0 .1 .1 .1 .0
+after : (k : tie.After-known-told Inv-loop μ-loop)
+    → k .before .before .before .before .before .loop .place + 4 ≤ k .before .number .given .0 .1 .1 .1 .0
 after k = behind-head _ _ (octets k) _ (says k) _ _ _ _ (item k)
 
-within : (k : tie.After-known-told Inv-loop μ-loop) → k .before .number .given .0 .1 .1 .1 .0 ≤ length (k .before .before .before .before .before .before .before .before .before .args .sheet .now)
+within : (k : tie.After-known-told Inv-loop μ-loop)
+    → k .before .number .given .0 .1 .1 .1 .0 ≤ length (k .before .before .before .before .before .before .before .before .before .args .sheet .now)
 within k = behind-within _ _ (octets k) _ (says k) _ _ _ _ (item k)
 
 -- there is room for an attribute and its head
