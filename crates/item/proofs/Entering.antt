@@ -71,7 +71,9 @@ module _ (l : List ℕ) (p : ℕ) where
   unfolding enteredAt entered
   no-stored h g = rw (length-drop p l, le-ltb (length l - p) 4 h, getD-drop p l 2 0, getD-drop p l 3 0, lt-ltb (length l - p) size-at g)
 
-  judged-at : size-at ≤ length l - p → enteredAt l p ≡ cond (standsFor (getD l p 0) (getD l (p + 1) 0) form-at count-at stored-at) (holds number-at (valueIn number-at form-at count-at stored-at) size-at) (refused 23)
+  judged-at : size-at ≤ length l - p
+      → enteredAt l p ≡ cond (standsFor (getD l p 0) (getD l (p + 1) 0) form-at count-at stored-at)
+      (holds number-at (valueIn number-at form-at count-at stored-at) size-at) (refused 23)
   unfolding enteredAt entered partOf
   judged-at g =
       let first : getD (drop p l) 0 0 ≡ getD l p 0 = getD-drop p l 0 0 ∙ ap (λ (k : ℕ). getD l k 0) (add-zero p) in
@@ -120,21 +122,37 @@ module _ (l : List ℕ) (p : ℕ) (o : Octets l) (r : Headed) (says : r ≡ head
   unfolding headedAt headFrom
   a-head number form count behind q = go (ltb (length l - p) 4) (ltb (length l - p) (size-at l p)) (ltb (number-at l p) 256 && not (eqb (getD l (p + 1) 0) 0)) refl refl (sym q ∙ says)
     where
-      go : (a b c : Bool) → ltb (length l - p) (size-at l p) ≡ b → ltb (number-at l p) 256 && not (eqb (getD l (p + 1) 0) 0) ≡ c → Item number form count behind ≡ cond a (headRefused 22 p) (cond b (headRefused 22 p) (cond c (headRefused 23 p) (Item (number-at l p) (form-at l p) (count-at l p) (p + size-at l p)))) → AHead number form count behind
+      go : (a b c : Bool) → ltb (length l - p) (size-at l p) ≡ b → ltb (number-at l p) 256 && not (eqb (getD l (p + 1) 0) 0) ≡ c
+          → Item number form count behind ≡ cond a (headRefused 22 p)
+          (cond b (headRefused 22 p) (cond c (headRefused 23 p) (Item (number-at l p) (form-at l p) (count-at l p) (p + size-at l p))))
+          → AHead number form count behind
       go true b c g s e = absurd (let z : _≡_ {A = ℕ} 0 1 = cc in omega arith)
       go false true c g s e = absurd (let z : _≡_ {A = ℕ} 0 1 = cc in omega arith)
       go false false true g s e = absurd (let z : _≡_ {A = ℕ} 0 1 = cc in omega arith)
       go false false false g s e =
-          record { room = ltb-false (length l - p) (size-at l p) g; number-is = cc; form-is = cc; count-is = cc; behind-is = cc; sub-is = s }
+          record {
+            room = ltb-false (length l - p)
+                (size-at l p) g;
+            number-is = cc;
+            form-is = cc;
+            count-is = cc;
+            behind-is = cc;
+            sub-is = s;
+          }
 
   pub a-refusal : (refusal : Refusal) → r ≡ Refused refusal → (enteredAt l p ≡ refused (refusal .number)) × (refusal .second ≡ p)
   unfolding headedAt headFrom
   a-refusal refusal q = go (ltb (length l - p) 4) (ltb (length l - p) (size-at l p)) (ltb (number-at l p) 256 && not (eqb (getD l (p + 1) 0) 0)) refl refl refl (sym q ∙ says)
     where
-      with : (k : ℕ) → enteredAt l p ≡ refused k → Refused refusal ≡ headRefused k p → (enteredAt l p ≡ refused (refusal .number)) × (refusal .second ≡ p)
+      with : (k : ℕ) → enteredAt l p ≡ refused k → Refused refusal ≡ headRefused k p
+          → (enteredAt l p ≡ refused (refusal .number)) × (refusal .second ≡ p)
       with k h e = let n : k ≡ refusal .number = cc in (h ∙ rw n, cc)
 
-      go : (a b c : Bool) → ltb (length l - p) 4 ≡ a → ltb (length l - p) (size-at l p) ≡ b → ltb (number-at l p) 256 && not (eqb (getD l (p + 1) 0) 0) ≡ c → Refused refusal ≡ cond a (headRefused 22 p) (cond b (headRefused 22 p) (cond c (headRefused 23 p) (Item (number-at l p) (form-at l p) (count-at l p) (p + size-at l p)))) → (enteredAt l p ≡ refused (refusal .number)) × (refusal .second ≡ p)
+      go : (a b c : Bool) → ltb (length l - p) 4 ≡ a → ltb (length l - p) (size-at l p) ≡ b
+          → ltb (number-at l p) 256 && not (eqb (getD l (p + 1) 0) 0) ≡ c
+          → Refused refusal ≡ cond a (headRefused 22 p)
+          (cond b (headRefused 22 p) (cond c (headRefused 23 p) (Item (number-at l p) (form-at l p) (count-at l p) (p + size-at l p))))
+          → (enteredAt l p ≡ refused (refusal .number)) × (refusal .second ≡ p)
       go true b c h g s e = with 22 (no-head l p (ltb-true (length l - p) 4 h)) e
       go false true c h g s e = with 22 (no-stored l p (ltb-false (length l - p) 4 h) (ltb-true (length l - p) (size-at l p) g)) e
       go false false true h g s e =
@@ -153,13 +171,15 @@ module _ (l : List ℕ) (p : ℕ) (o : Octets l) (r : Headed) (says : r ≡ head
     pub size-stored : length (take (behind - (p + 4)) (drop (p + 4) l)) ≡ storedLength form count
     size-stored = ap length stored-part ∙ stored-long (h .room) ∙ sym (λ i. storedLength (h .form-is i) (h .count-is i))
 
-    item-stands : standsAs number form count (take (behind - (p + 4)) (drop (p + 4) l)) ≡ standsFor (getD l p 0) (getD l (p + 1) 0) (form-at l p) (count-at l p) (stored-at l p)
+    item-stands : standsAs number form count (take (behind - (p + 4)) (drop (p + 4) l)) ≡ standsFor (getD l p 0) (getD l (p + 1) 0)
+        (form-at l p) (count-at l p) (stored-at l p)
     item-stands =
         rw (stored-part, h .number-is, h .form-is, h .count-is)
         (stands-as (getD l p 0) (getD l (p + 1) 0) (form-at l p) (count-at l p) (stored-at l p) (octet-at l p o) (stored-long (h .room)) (number-at l p) refl (h .sub-is))
 
     -- what stands at the place, by the test of the item
-    pub item-is : enteredAt l p ≡ cond (standsAs number form count (take (behind - (p + 4)) (drop (p + 4) l))) (holds number (valueIn number form count (take (behind - (p + 4)) (drop (p + 4) l))) (size-at l p)) (refused 23)
+    pub item-is : enteredAt l p ≡ cond (standsAs number form count (take (behind - (p + 4)) (drop (p + 4) l)))
+        (holds number (valueIn number form count (take (behind - (p + 4)) (drop (p + 4) l))) (size-at l p)) (refused 23)
     item-is =
         judged-at l p (h .room) ∙ ap (λ (b : Bool). cond b (holds (number-at l p) (valueIn (number-at l p) (form-at l p) (count-at l p) (stored-at l p)) (size-at l p)) (refused 23)) (sym item-stands)
         ∙ ap (λ (e : Entered). cond (standsAs number form count (take (behind - (p + 4)) (drop (p + 4) l))) e (refused 23)) (sym (λ i. holds (h .number-is i) (valueIn (h .number-is i) (h .form-is i) (h .count-is i) (stored-part i)) (size-at l p)))

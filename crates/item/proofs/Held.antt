@@ -157,7 +157,9 @@ module _ (x : ℕ) (r : List ℕ) where
         ∙ rw (released 8 3 (omega arith), released 9 11 (omega arith))
         (go (eqb x 98) (eqb x 99) refl refl)
       where
-        go : (a b : Bool) → eqb x 98 ≡ a → eqb x 99 ≡ b → (a && eqb (length r) 3 || b && eqb (length r) 11) && same (storedOf qos told) (x ∷ r) ≡ (a && eqb (length r) 3 || b && eqb (length r) 11)
+        go : (a b : Bool) → eqb x 98 ≡ a → eqb x 99 ≡ b
+            → (a && eqb (length r) 3 || b && eqb (length r) 11) && same (storedOf qos told)
+            (x ∷ r) ≡ (a && eqb (length r) 3 || b && eqb (length r) 11)
         go true b e f = rw (same-again 8 (omega arith) (eqb-true x 98 e)) (and-true (eqb (length r) 3 || b && eqb (length r) 11))
         go false true e f = rw (same-again 9 (omega arith) (eqb-true x 99 f)) (and-true (eqb (length r) 11))
         go false false e f = refl

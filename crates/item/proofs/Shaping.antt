@@ -59,7 +59,8 @@ module _ (code f c : ℕ) (st : List ℕ) where
   shaped-not codes t out = rw (has-not f codes t code out)
 
   -- a form that one code has: a test of the code, and a test of the octets
-  pub shaped-alone : (own : ℕ) (t : Bool) → formOf (shapeBy own) ≡ f → T (only f (own ∷ [])) → t ≡ held (shapeBy own) c st → eqb code own && t ≡ shaped (shapeBy code) f c st
+  pub shaped-alone : (own : ℕ) (t : Bool) → formOf (shapeBy own) ≡ f → T (only f (own ∷ [])) → t ≡ held (shapeBy own) c st
+      → eqb code own && t ≡ shaped (shapeBy code) f c st
   shaped-alone own t e a h = go (eqb code own) refl
     where
       go : (b : Bool) → eqb code own ≡ b → b && t ≡ shaped (shapeBy code) f c st
@@ -98,7 +99,8 @@ takes-many code c h = go (eqb code 40) refl
     go false e = takes-none (shapeBy code) c (has-not 4 (40 ∷ 41 ∷ []) tt code (rw (e, ne-eqb code 41 h)))
 
 -- octets are so many digits of a shape
-pub digits-shaped : (s : Shape) (c : ℕ) (st : List ℕ) → length st ≡ packedLength c → Octets st → shaped s 4 c st ≡ takesDigits s c && packedDigits c st
+pub digits-shaped : (s : Shape) (c : ℕ) (st : List ℕ) → length st ≡ packedLength c → Octets st
+    → shaped s 4 c st ≡ takesDigits s c && packedDigits c st
 unfolding shaped formOf takesDigits
 digits-shaped (digits a b) c st l o = digits-held a b c st l o
 digits-shaped number c st l o = refl

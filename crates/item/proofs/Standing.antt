@@ -72,7 +72,8 @@ raw-formed : (n f : ℕ) (v : List ℕ) → f ≤ 1 → eqb (form n v) f && carr
 unfolding form decodes raw
 raw-formed n f v low = rw (own-code (shapeOf n), shape-back n) (go (leb 2 (formOf (shapeOf n)) && meets (shapeOf n) v) refl)
   where
-    go : (b : Bool) → leb 2 (formOf (shapeOf n)) && meets (shapeOf n) v ≡ b → eqb (cond b (formOf (shapeOf n)) (cond (isPlain n) 0 1)) f && carries n v ≡ eqb (cond (isPlain n) 0 1) f && (not b && carries n v)
+    go : (b : Bool) → leb 2 (formOf (shapeOf n)) && meets (shapeOf n) v ≡ b
+        → eqb (cond b (formOf (shapeOf n)) (cond (isPlain n) 0 1)) f && carries n v ≡ eqb (cond (isPlain n) 0 1) f && (not b && carries n v)
     go false e = refl
     go true e =
         let own : 2 ≤ formOf (shapeOf n) = leb→le 2 (formOf (shapeOf n)) (parts (leb 2 (formOf (shapeOf n))) (meets (shapeOf n) v) (passes _ e) .0) in
@@ -87,14 +88,16 @@ module _ (t s f c : ℕ) (st : List ℕ) (octet : t < 256) (long : length st ≡
   unfolding standsFor
   raw-stands low = rw (le-leb f 1 low) (same-test _ _ there back) ∙ ap (λ (b : Bool). eqb (subOf named) s && b) (raw-formed named f st low)
     where
-      there : T (carries named st && same (item named st) (t ∷ s ∷ f ∷ c ∷ st)) → T (eqb (subOf named) s && (eqb (form named st) f && carries named st))
+      there : T (carries named st && same (item named st) (t ∷ s ∷ f ∷ c ∷ st))
+          → T (eqb (subOf named) s && (eqb (form named st) f && carries named st))
       there p =
           let q = parts (carries named st) (same (item named st) (t ∷ s ∷ f ∷ c ∷ st)) p in
           let h = headed named st t s f c st (same-one (item named st) (t ∷ s ∷ f ∷ c ∷ st) (q .1)) in
           both (eqb (subOf named) s) _ (passes _ (eq-eqb (subOf named) s (h .sub-is)))
           (both (eqb (form named st) f) (carries named st) (passes _ (eq-eqb (form named st) f (h .form-is))) (q .0))
 
-      back : T (eqb (subOf named) s && (eqb (form named st) f && carries named st)) → T (carries named st && same (item named st) (t ∷ s ∷ f ∷ c ∷ st))
+      back : T (eqb (subOf named) s && (eqb (form named st) f && carries named st))
+          → T (carries named st && same (item named st) (t ∷ s ∷ f ∷ c ∷ st))
       back p =
           let q = parts (eqb (subOf named) s) (eqb (form named st) f && carries named st) p in
           let r = parts (eqb (form named st) f) (carries named st) (q .1) in
@@ -138,7 +141,8 @@ short-carried n v f h = go (isPlain n)
     plain : not (eqb n 26) ≡ true
     plain = rw (ne-eqb n 26 (λ e. no-form-26 (subst (λ (k : ℕ). T (leb 2 (formOf (shapeOf k)))) e f)))
 
-    go : (b : Bool) → T (cond b (leb (length v) 253 && (not (eqb n 26) || (leb 5 (length v) && not (eqb (numberOf (take 4 v)) 10415)))) (leb (length v) 246))
+    go : (b : Bool)
+        → T (cond b (leb (length v) 253 && (not (eqb n 26) || (leb 5 (length v) && not (eqb (numberOf (take 4 v)) 10415)))) (leb (length v) 246))
     go true = rw (le-leb (length v) 253 (omega arith), plain) tt
     go false = passes _ (le-leb (length v) 246 h)
 
@@ -158,7 +162,8 @@ digits-counted (exactly k) c st e n = absurd (omega arith)
 digits-counted blocks c st e n = absurd (omega arith)
 digits-counted free c st e n = absurd (omega arith)
 
-decoded : (n : ℕ) (v : List ℕ) → T (leb 2 (formOf (shapeOf n))) → T (meets (shapeOf n) v) → (form n v ≡ formOf (shapeOf n)) × (stored n v ≡ storedOf (shapeOf n) v)
+decoded : (n : ℕ) (v : List ℕ) → T (leb 2 (formOf (shapeOf n))) → T (meets (shapeOf n) v)
+    → (form n v ≡ formOf (shapeOf n)) × (stored n v ≡ storedOf (shapeOf n) v)
 unfolding form stored decodes
 decoded n v f t = let e = is-true (leb 2 (formOf (shapeOf n)) && meets (shapeOf n) v) (both (leb 2 (formOf (shapeOf n))) (meets (shapeOf n) v) f t) in (rw e, rw e)
 
@@ -180,20 +185,23 @@ module _ (t s f c : ℕ) (st : List ℕ) (octet : t < 256) (long : length st ≡
   unfolding count
   other-count e k g = rw (e, g, k) (long ∙ rw g)
 
-  there : 2 ≤ f → T (carries numbered stood && same (item numbered stood) (t ∷ s ∷ f ∷ c ∷ st)) → T (eqb (subOf numbered) s && shaped (shapeOf numbered) f c st)
+  there : 2 ≤ f → T (carries numbered stood && same (item numbered stood) (t ∷ s ∷ f ∷ c ∷ st))
+      → T (eqb (subOf numbered) s && shaped (shapeOf numbered) f c st)
   unfolding shaped held
   there high p =
       let h = headed numbered stood t s f c st (same-one (item numbered stood) (t ∷ s ∷ f ∷ c ∷ st) (parts (carries numbered stood) (same (item numbered stood) (t ∷ s ∷ f ∷ c ∷ st)) p .1)) in
       both (eqb (subOf numbered) s) _ (passes _ (eq-eqb (subOf numbered) s (h .sub-is))) (go h (either-way numbered stood))
     where
-      go : Headed numbered stood t s f c st → Decoded numbered stood ⊎ Plainly numbered stood → T (eqb (formOf (shapeOf numbered)) f && (leb 2 (formOf (shapeOf numbered)) && (meets (shapeOf numbered) stood && same (storedOf (shapeOf numbered) stood) st)))
+      go : Headed numbered stood t s f c st → Decoded numbered stood ⊎ Plainly numbered stood
+          → T (eqb (formOf (shapeOf numbered)) f && (leb 2 (formOf (shapeOf numbered)) && (meets (shapeOf numbered) stood && same (storedOf (shapeOf numbered) stood) st)))
       go h (inl d) =
           both (eqb (formOf (shapeOf numbered)) f) _ (passes _ (eq-eqb (formOf (shapeOf numbered)) f (sym (d .form-is) ∙ h .form-is)))
           (both (leb 2 (formOf (shapeOf numbered))) _ (d .own)
           (both (meets (shapeOf numbered) stood) _ (d .met) (rw (sym (d .stored-is) ∙ h .stored-is) (same-itself st))))
       go h (inr p) = absurd (let e = p .form-is in let g = h .form-is in omega (arith, raw-low (isPlain numbered)))
 
-  back : 2 ≤ f → T (eqb (subOf numbered) s && shaped (shapeOf numbered) f c st) → T (carries numbered stood && same (item numbered stood) (t ∷ s ∷ f ∷ c ∷ st))
+  back : 2 ≤ f → T (eqb (subOf numbered) s && shaped (shapeOf numbered) f c st)
+      → T (carries numbered stood && same (item numbered stood) (t ∷ s ∷ f ∷ c ∷ st))
   unfolding shaped held
   back high p =
       let q = parts (eqb (subOf numbered) s) (eqb (formOf (shapeOf numbered)) f && (leb 2 (formOf (shapeOf numbered)) && (meets (shapeOf numbered) stood && same (storedOf (shapeOf numbered) stood) st))) p in

@@ -77,10 +77,10 @@ pub fn carries(number: u16, value: &[u8]) -> bool
 pub fn takes_digits(code: u8, count: u8) -> bool
     ensures { λ r. ⌜ r ≡ takesDigits (shapeBy code) count ⌝ }
 {
-    if code == 41 {
+    if code == shape::SHORT_DIGITS {
         return (5 <= count) & (count <= 6);
     }
-    (code == 40) & ((1 <= count) & (count <= 15))
+    (code == shape::LONG_DIGITS) & ((1 <= count) & (count <= 15))
 }
 
 // Whether a value of a number stands as it is, in form 0 or 1, where the code is that of the number's shape: it takes that form, and an
@@ -92,8 +92,8 @@ pub fn is_raw(number: u16, code: u8, form: u8, value: &[u8]) -> bool
     if form != plain {
         return false;
     }
-    // A shape whose code is below 20 has no form of its own that the value could take.
-    if 20 <= code {
+    // A shape whose code is below that of a number has no form of its own that the value could take.
+    if shape::NUMBER <= code {
         if shape::meets_code(code, value) {
             return false;
         }
@@ -129,9 +129,9 @@ pub fn is_octet(code: u8, stored: &[u8]) -> bool
     ensures { λ r. ⌜ r ≡ shaped (shapeBy code) 7 (length (now (stored .entry))) (now (stored .entry)) ⌝ }
 {
     match code {
-        70 => holds_one(stored, 15),
-        71 => stored.len() == 1,
-        72 => holds_one(stored, 9),
+        shape::HEX_DIGIT => holds_one(stored, 15),
+        shape::ANY_OCTET => stored.len() == 1,
+        shape::DECIMAL_DIGIT => holds_one(stored, 9),
         _ => false,
     }
 }

@@ -15,7 +15,7 @@ use Rattle.meaning.proofs.Numbers.{octets-length}
 use Rattle.octets.specs.Parts.{fitsAt, laidAt, Laid}
 use Rattle.octets.proofs.Overs.{over-none, room-fits, laid-first, laid-none, laid-behind}
 use Rattle.octets.proofs.Unpacking.{unpacked-length}
-use Rattle.lines.specs.Lines.{entryDigits, entryWith, entriesWith, Begun}
+use Rattle.lines.specs.Lines.{entryDigits, entryWith, entriesWith, StartLaid}
 
 pub digits-length : (e : ℕ) → length (entryDigits e) ≡ 8
 unfolding entryDigits
@@ -26,7 +26,8 @@ unfolding entryWith
 entry-length b e = length-append (entryDigits e) (b ∷ []) ∙ omega (arith, digits-length e)
 
 -- the digits over nine octets that are all the one behind
-pub entry-made : (b e : ℕ) (o line : List ℕ) (said : Bool) → o ≡ octetsOf 4 e → Laid 0 (text (unpack 8 o)) (replicate 9 b) said line → line ≡ entryWith b e
+pub entry-made : (b e : ℕ) (o line : List ℕ) (said : Bool) → o ≡ octetsOf 4 e → Laid 0 (text (unpack 8 o)) (replicate 9 b) said line
+    → line ≡ entryWith b e
 unfolding entryWith entryDigits over
 entry-made b e o line said i l =
     l .holds
@@ -58,7 +59,8 @@ pub entered-none : (b : ℕ) (l : List ℕ) (end : ℕ) (d : List ℕ) → (end 
 unfolding entriesWith
 entered-none b l end d h = record { within = omega arith; inside = h .0; room = h .1; kept = refl; is = sym (over-none d) }
 
-pub entered-more : (b : ℕ) (l : List ℕ) (end : ℕ) (d out : List ℕ) (i : ℕ) (line held : List ℕ) (said : Bool) → Entered b l end d out i → i < end → line ≡ entryWith b (getD l i 0)
+pub entered-more : (b : ℕ) (l : List ℕ) (end : ℕ) (d out : List ℕ) (i : ℕ) (line held : List ℕ) (said : Bool) → Entered b l end d out i
+    → i < end → line ≡ entryWith b (getD l i 0)
     → Laid (9 * i) line out said held → length held ≡ length out → Entered b l end d held (i + 1)
 entered-more b l end d out i line held said u h e laid size =
     let before : length (entriesWith b (take i l)) ≡ 9 * i = entries-length b (take i l) ∙ omega (arith, length-take-le i l (omega (arith, u .inside))) in
@@ -73,7 +75,8 @@ entered-more b l end d out i line held said u h e laid size =
       is = laid .holds ∙ laid-behind (entriesWith b (take i l)) line d out (9 * i) before (u .is) (omega (arith, u .room)) ∙ ap (λ (t : List ℕ). over t d) next;
     }
 
-pub entered-all : (b : ℕ) (l : List ℕ) (end : ℕ) (d out : List ℕ) (i : ℕ) → Entered b l end d out i → end ≤ i → out ≡ over (entriesWith b (take end l)) d
+pub entered-all : (b : ℕ) (l : List ℕ) (end : ℕ) (d out : List ℕ) (i : ℕ) → Entered b l end d out i → end ≤ i
+    → out ≡ over (entriesWith b (take end l)) d
 entered-all b l end d out i u h = let e : i ≡ end = omega (arith, u .within) in u .is ∙ rw e
 
 -- ---- Whether they fit
@@ -82,13 +85,13 @@ no-room : (s d : List ℕ) → length d < length s → fitsAt 0 s d ≡ false
 unfolding fitsAt
 no-room s d h = lt-leb (0 + length s) (length d) (omega arith)
 
-begun : (s d out : List ℕ) (n : ℕ) → length s ≡ n → n ≤ length d → out ≡ over s d → Begun s d n out
-begun s d out n e h o =
+start-laid : (s d out : List ℕ) (n : ℕ) → length s ≡ n → n ≤ length d → out ≡ over s d → StartLaid s d n out
+start-laid s d out n e h o =
     let fits : fitsAt 0 s d ≡ true = room-fits 0 s d (omega arith) in
     record { says = sym (ap (λ (b : Bool). cond b (length s) 0) fits ∙ e); holds = o ∙ sym (laid-first s d (omega arith)) }
 
-not-begun : (s d : List ℕ) → length d < length s → Begun s d 0 d
-not-begun s d h =
+start-not-laid : (s d : List ℕ) → length d < length s → StartLaid s d 0 d
+start-not-laid s d h =
     let fits : fitsAt 0 s d ≡ false = no-room s d h in
     record { says = sym (ap (λ (b : Bool). cond b (length s) 0) fits); holds = sym (laid-none 0 s d fits) }
 
@@ -108,12 +111,14 @@ module _ (b : ℕ) (l d : List ℕ) (count end : ℕ) (e : end ≡ min count (le
   size : length (entriesWith b (take count l)) ≡ 9 * end
   size = entries-length b (take count l) ∙ omega (arith, length-take count l)
 
-  pub entries-begun : (out : List ℕ) → 9 * end ≤ length d → out ≡ over (entriesWith b (take end l)) d → Begun (entriesWith b (take count l)) d (9 * end) out
-  entries-begun out h o = begun (entriesWith b (take count l)) d out (9 * end) size h (o ∙ ap (λ (t : List ℕ). over (entriesWith b t) d) first)
+  pub entries-laid : (out : List ℕ) → 9 * end ≤ length d → out ≡ over (entriesWith b (take end l)) d
+      → StartLaid (entriesWith b (take count l)) d (9 * end) out
+  entries-laid out h o = start-laid (entriesWith b (take count l)) d out (9 * end) size h (o ∙ ap (λ (t : List ℕ). over (entriesWith b t) d) first)
 
-  pub entries-not : length d < 9 * end → Begun (entriesWith b (take count l)) d 0 d
-  entries-not h = not-begun (entriesWith b (take count l)) d (omega (arith, size))
+  pub entries-not : length d < 9 * end → StartLaid (entriesWith b (take count l)) d 0 d
+  entries-not h = start-not-laid (entriesWith b (take count l)) d (omega (arith, size))
 
 -- Any two answers that the promise permits are the same, the buffer included.
-pub one-begun : (s d : List ℕ) (said said′ : ℕ) (held held′ : List ℕ) → Begun s d said held → Begun s d said′ held′ → (said ≡ said′) × (held ≡ held′)
-one-begun s d said said′ held held′ p q = (p .says ∙ sym (q .says), p .holds ∙ sym (q .holds))
+pub one-start-laid : (s d : List ℕ) (said said′ : ℕ) (held held′ : List ℕ) → StartLaid s d said held → StartLaid s d said′ held′
+    → (said ≡ said′) × (held ≡ held′)
+one-start-laid s d said said′ held held′ p q = (p .says ∙ sym (q .says), p .holds ∙ sym (q .holds))

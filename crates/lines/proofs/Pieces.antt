@@ -22,14 +22,16 @@ text-none e f = λ k. record { octets = (e ∙ sym (over-none (replicate 50 0)))
 -- ---- One piece more
 
 -- laid behind the text, if it fits, and if not
-pub followed-fits : (t : Text) (s held : List ℕ) (said : Bool) → Laid (t .len) s (t .octets) said held → said ≡ true → {r : Text} → r .octets ≡ held → r .len ≡ t .len + length s → r ≡ followed t s
+pub followed-fits : (t : Text) (s held : List ℕ) (said : Bool) → Laid (t .len) s (t .octets) said held → said ≡ true → {r : Text}
+    → r .octets ≡ held → r .len ≡ t .len + length s → r ≡ followed t s
 unfolding followed
 followed-fits t s held said l e p q =
     let fits : fitsAt (t .len) s (t .octets) ≡ true = sym (l .says) ∙ e in
     let len = q ∙ sym (ap (λ (b : Bool). cond b (t .len + length s) (t .len)) fits) in
     λ k. record { octets = (p ∙ l .holds) k; len = len k }
 
-pub followed-not : (t : Text) (s held : List ℕ) (said : Bool) → Laid (t .len) s (t .octets) said held → said ≡ false → {r : Text} → r .octets ≡ held → r .len ≡ t .len → r ≡ followed t s
+pub followed-not : (t : Text) (s held : List ℕ) (said : Bool) → Laid (t .len) s (t .octets) said held → said ≡ false → {r : Text}
+    → r .octets ≡ held → r .len ≡ t .len → r ≡ followed t s
 unfolding followed
 followed-not t s held said l e p q =
     let fits : fitsAt (t .len) s (t .octets) ≡ false = sym (l .says) ∙ e in
@@ -52,7 +54,8 @@ then l s e f h = f ∙ ap (λ (t : Text). followed t s) e ∙ text-more l s h
 -- ---- The line of a refusal
 
 -- its five pieces
-pub refusal-pieces : (n s : ℕ) {none word first between second line : Text} → none ≡ textOf [] → word ≡ followed none refusedWord → first ≡ followed word (decimal n)
+pub refusal-pieces : (n s : ℕ) {none word first between second line : Text} → none ≡ textOf [] → word ≡ followed none refusedWord
+    → first ≡ followed word (decimal n)
     → between ≡ followed first (32 ∷ []) → second ≡ followed between (decimal s) → line ≡ followed second (10 ∷ []) → line ≡ textOf (refusalLine n s)
 unfolding refusalLine
 refusal-pieces n s a b c d e f =

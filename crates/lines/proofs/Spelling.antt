@@ -28,7 +28,8 @@ pub decimal-enough : (k n : ℕ) → n < 10 ^ suc k → decimalIn (suc (suc k)) 
 decimal-enough zero n h = let s : n < 10 ^ 1 = h in decimal-one 1 n (omega arith) ∙ sym (decimal-one 0 n (omega arith))
 decimal-enough (suc k) n h = step (leb n 9) refl (decimal-enough k (n / 10) (omega (arith, pow-suc 10 (suc k))))
   where
-    step : (b : Bool) → leb n 9 ≡ b → decimalIn (suc (suc k)) (n / 10) ≡ decimalIn (suc k) (n / 10) → decimalIn (suc (suc (suc k))) n ≡ decimalIn (suc (suc k)) n
+    step : (b : Bool) → leb n 9 ≡ b → decimalIn (suc (suc k)) (n / 10) ≡ decimalIn (suc k) (n / 10)
+        → decimalIn (suc (suc (suc k))) n ≡ decimalIn (suc (suc k)) n
     step true e i = let h : n ≤ 9 = leb-true n 9 e in decimal-one (suc (suc k)) n h ∙ sym (decimal-one (suc k) n h)
     step false e i =
         let h : 9 < n = leb-false n 9 e in
@@ -53,7 +54,8 @@ unfolding decimalIn
 decimal-in-length zero n = omega arith
 decimal-in-length (suc k) n = go (leb n 9) (decimal-in-length k (n / 10))
   where
-    go : (b : Bool) → length (decimalIn k (n / 10)) ≤ k → length (cond b ((n + 48) ∷ []) (decimalIn k (n / 10) ++ ((n % 10 + 48) ∷ []))) ≤ suc k
+    go : (b : Bool) → length (decimalIn k (n / 10)) ≤ k
+        → length (cond b ((n + 48) ∷ []) (decimalIn k (n / 10) ++ ((n % 10 + 48) ∷ []))) ≤ suc k
     go true h = omega arith
     go false h = omega (arith, length-append (decimalIn k (n / 10)) ((n % 10 + 48) ∷ []))
 
@@ -93,7 +95,8 @@ pub spelling-room : (n : ℕ) (out : List ℕ) (from rest : ℕ) → Spelling n 
 spelling-room n out zero rest u h = let s : rest < 10 ^ 1 = u .small in absurd (omega arith)
 spelling-room n out (suc w) rest u h = omega arith
 
-pub spelling-more : (n : ℕ) (out : List ℕ) (from rest : ℕ) → Spelling n out from rest → 9 < rest → Spelling n (set out from (rest % 10 + 48)) (from - 1) (rest / 10)
+pub spelling-more : (n : ℕ) (out : List ℕ) (from rest : ℕ) → Spelling n out from rest → 9 < rest
+    → Spelling n (set out from (rest % 10 + 48)) (from - 1) (rest / 10)
 spelling-more n out zero rest u h = let s : rest < 10 ^ 1 = u .small in absurd (omega arith)
 spelling-more n out (suc w) rest u h =
     let d : ℕ = rest % 10 + 48 in
@@ -111,7 +114,8 @@ spelling-more n out (suc w) rest u h =
           ∙ ap (λ (t : List ℕ). decimalIn (suc w) (rest / 10) ++ t) (sym here);
     })
 
-pub spelling-all : (n : ℕ) (out : List ℕ) (from rest : ℕ) → Spelling n out from rest → rest ≤ 9 → partOf (set out from (rest + 48)) from 20 ≡ decimal n
+pub spelling-all : (n : ℕ) (out : List ℕ) (from rest : ℕ) → Spelling n out from rest → rest ≤ 9
+    → partOf (set out from (rest + 48)) from 20 ≡ decimal n
 spelling-all n out from rest u h =
     let size : length (set out from (rest + 48)) ≡ 20 = length-set out from (rest + 48) ∙ u .size in
     part-rest (set out from (rest + 48)) from 20 (omega arith)

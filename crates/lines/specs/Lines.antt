@@ -52,7 +52,7 @@ entriesWith b [] = []
 entriesWith b (e ∷ l) = entryWith b e ++ entriesWith b l
 
 -- how many octets s has, if it fits over the start of the buffer d, and 0 if not; and what the buffer holds then
-pub record Begun (s d : List ℕ) (said : ℕ) (held : List ℕ) : Type 0 where
+pub record StartLaid (s d : List ℕ) (said : ℕ) (held : List ℕ) : Type 0 where
   pub says : said ≡ cond (fitsAt 0 s d) (length s) 0
   pub holds : held ≡ laidAt 0 s d
 

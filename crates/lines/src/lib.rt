@@ -6,7 +6,7 @@ ghost use mathlib.Core.List.{[]};
 ghost use lib.ListN.{length, take};
 ghost use Rattle.meaning.specs.Answers.{over};
 ghost use Rattle.octets.specs.Parts.{partOf};
-ghost use Rattle.lines.specs.Lines.{decimal, refusalLine, entryWith, entriesWith, Begun, secondTold, textOf, followed};
+ghost use Rattle.lines.specs.Lines.{decimal, refusalLine, entryWith, entriesWith, StartLaid, secondTold, textOf, followed};
 
 // A text of at most fifty octets together with their count, with zeros behind them: no line of a refusal is longer.
 pub struct Text {
@@ -116,7 +116,7 @@ fn lay(list: &[u32], end: usize, behind: u8, text: &mut [u8])
 // Lays the first `count` entries of a list, or as many as it has, over the start of `text`, each with an octet behind it, and tells their
 // octets, nine an entry, if they fit; else changes nothing and says 0.
 pub fn entries(list: &[u32], count: usize, behind: u8, text: &mut [u8]) -> usize
-    ensures { λ r. ⌜ Begun (entriesWith behind (take count (now (list .entry)))) (now (text .entry)) r (now (text .exit)) ⌝ }
+    ensures { λ r. ⌜ StartLaid (entriesWith behind (take count (now (list .entry)))) (now (text .entry)) r (now (text .exit)) ⌝ }
 {
     let end = octets::least(count, list.len());
     if text.len() / 9 < end {

@@ -47,14 +47,16 @@ pub begun-take : (at n : ℕ) (s d out : List ℕ) → at ≤ length d → Begun
 begun-take at n s d out h b = begun-start at (take n s) (drop n s) d out h (begun-as at s (take n s ++ drop n s) d out (take-append-drop n s) b)
 
 -- So do the first n of them where sixteen were laid, or as many as there are.
-pub begun-short : (at n : ℕ) (s d out : List ℕ) → n ≤ 16 → at + 16 ≤ length d → out ≡ laidAt at (partOf s 0 16) d → Begun at (take n s) d out
+pub begun-short : (at n : ℕ) (s d out : List ℕ) → n ≤ 16 → at + 16 ≤ length d → out ≡ laidAt at (partOf s 0 16) d
+    → Begun at (take n s) d out
 unfolding partOf
 begun-short at n s d out h room e =
     begun-as at (take n (partOf s 0 16)) (take n s) d out (sym (take-take n 16 s h))
     (begun-take at n (partOf s 0 16) d out (omega arith) (begun-laid at (partOf s 0 16) d out (omega (arith, part-at-most s 0 16)) e))
 
 -- Laid one behind the other, two pieces stand as one.
-pub begun-on : (at behind : ℕ) (s t d first out : List ℕ) → at + length s ≡ behind → Begun at s d first → Begun behind t first out → Begun at (s ++ t) d out
+pub begun-on : (at behind : ℕ) (s t d first out : List ℕ) → at + length s ≡ behind → Begun at s d first → Begun behind t first out
+    → Begun at (s ++ t) d out
 begun-on at behind s t d first out e b c =
     let size : at + length (s ++ t) ≡ behind + length t = omega (arith, length-append s t) in
     record {
@@ -66,7 +68,8 @@ begun-on at behind s t d first out e b c =
     }
 
 -- So they do where the first is laid last, exactly.
-pub begun-before : (at behind : ℕ) (s t d first out : List ℕ) → at + length s ≡ behind → behind ≤ length d → Begun behind t d first → out ≡ laidAt at s first → Begun at (s ++ t) d out
+pub begun-before : (at behind : ℕ) (s t d first out : List ℕ) → at + length s ≡ behind → behind ≤ length d → Begun behind t d first
+    → out ≡ laidAt at s first → Begun at (s ++ t) d out
 unfolding over
 begun-before at behind s t d first out e h b q =
     let cut : length (take behind d) ≡ behind = length-take-le behind d h in

@@ -35,8 +35,10 @@ map-octets f h [] o = tt
 map-octets f h (x ∷ l) o = (h x (o .0), map-octets f h l (o .1))
 
 -- What takes no carry from one part of a number to the next is done to its octets, one by one.
-module _ (op : ℕ → ℕ → ℕ) (none : op 0 0 ≡ 0) (block : (k a b r s : ℕ) → r < 2 ^ k → s < 2 ^ k → op (a * 2 ^ k + r) (b * 2 ^ k + s) ≡ op a b * 2 ^ k + op r s) where
-  number-each : {A : Type 0} (f g : A → ℕ) (l : List A) → Octets (map f l) → Octets (map g l) → op (numberOf (map f l)) (numberOf (map g l)) ≡ numberOf (map (λ x. op (f x) (g x)) l)
+module _ (op : ℕ → ℕ → ℕ) (none : op 0 0 ≡ 0)
+    (block : (k a b r s : ℕ) → r < 2 ^ k → s < 2 ^ k → op (a * 2 ^ k + r) (b * 2 ^ k + s) ≡ op a b * 2 ^ k + op r s) where
+  number-each : {A : Type 0} (f g : A → ℕ) (l : List A) → Octets (map f l) → Octets (map g l)
+      → op (numberOf (map f l)) (numberOf (map g l)) ≡ numberOf (map (λ x. op (f x) (g x)) l)
   unfolding numberOf
   number-each f g [] o q = none
   number-each f g (x ∷ l) o q =
@@ -46,7 +48,8 @@ module _ (op : ℕ → ℕ → ℕ) (none : op 0 0 ≡ 0) (block : (k a b r s : 
       rw (length-map l f, length-map l g, length-map l (λ x. op (f x) (g x)), p) (block (8 * length l) (f x) (g x) _ _ a b ∙ ap (λ (r : ℕ). op (f x) (g x) * 2 ^ (8 * length l) + r) (number-each f g l (o .1) (q .1)))
 
   -- two numbers of which each octet comes of the same octet
-  octets-each : (f g : ℕ → ℕ) → ((x : ℕ) → x < 256 → f x < 256) → ((x : ℕ) → x < 256 → g x < 256) → (l : List ℕ) → Octets l → op (numberOf (map f l)) (numberOf (map g l)) ≡ numberOf (map (λ x. op (f x) (g x)) l)
+  octets-each : (f g : ℕ → ℕ) → ((x : ℕ) → x < 256 → f x < 256) → ((x : ℕ) → x < 256 → g x < 256) → (l : List ℕ) → Octets l
+      → op (numberOf (map f l)) (numberOf (map g l)) ≡ numberOf (map (λ x. op (f x) (g x)) l)
   octets-each f g hf hg l o = number-each f g l (map-octets f hf l o) (map-octets g hg l o)
 
 -- So two bits of each of eight octets are turned.
@@ -77,7 +80,8 @@ sum-none zero q r h = let e : 0 * q + r ≡ r = omega arith in rw e
 sum-none (suc y) q r h = rw (some-not y) (ne-eqb (suc y * q + r) 0 (λ e. omega (arith, suc-mul y q)))
 
 -- a number is 0 where each octet is, told by a test of what the octet comes of
-number-none : (f : ℕ → ℕ) (p : ℕ → Bool) → ((x : ℕ) → x < 256 → eqb (f x) 0 ≡ p x) → (l : List ℕ) → Octets l → eqb (numberOf (map f l)) 0 ≡ all p l
+number-none : (f : ℕ → ℕ) (p : ℕ → Bool) → ((x : ℕ) → x < 256 → eqb (f x) 0 ≡ p x) → (l : List ℕ) → Octets l
+    → eqb (numberOf (map f l)) 0 ≡ all p l
 unfolding numberOf
 number-none f p is [] o = refl
 number-none f p is (x ∷ l) o =
@@ -105,7 +109,8 @@ sum-block : (k a b r s : ℕ) → r < 2 ^ k → s < 2 ^ k → (a * 2 ^ k + r) + 
 sum-block k a b r s h g = rw (add-mul a b (2 ^ k)) (omega arith)
 
 -- So eight octets are tested at once.
-pub eight-below : (d : ℕ) → d < 256 ^ 8 → eqb (bitOr (bitAnd d 0xF0F0F0F0F0F0F0F0) (bitAnd (bitAnd d 0x0F0F0F0F0F0F0F0F + 0x0606060606060606) 0xF0F0F0F0F0F0F0F0)) 0 ≡ belowTen (octetsOf 8 d)
+pub eight-below : (d : ℕ) → d < 256 ^ 8
+    → eqb (bitOr (bitAnd d 0xF0F0F0F0F0F0F0F0) (bitAnd (bitAnd d 0x0F0F0F0F0F0F0F0F + 0x0606060606060606) 0xF0F0F0F0F0F0F0F0)) 0 ≡ belowTen (octetsOf 8 d)
 unfolding numberOf octetsOf
 eight-below d h =
     let l : List ℕ = octetsOf 8 d in
@@ -141,7 +146,8 @@ mask-kept [] o = refl
 mask-kept ((true, x) ∷ l) o = ap₂ (λ (y : ℕ) (m : List ℕ). y ∷ m) (and-mask x 8 ∙ mod-eq-of-lt (o .0)) (mask-kept l (o .1))
 mask-kept ((false, x) ∷ l) o = ap₂ (λ (y : ℕ) (m : List ℕ). y ∷ m) (and-zero-r x) (mask-kept l (o .1))
 
-number-kept : (l : List (Bool × ℕ)) (n : ℕ) → n ≡ numberOf (map (λ p. p .1) l) → Octets (map (λ p. p .1) l) → bitAnd n (numberOf (map mask l)) ≡ numberOf (map kept l)
+number-kept : (l : List (Bool × ℕ)) (n : ℕ) → n ≡ numberOf (map (λ p. p .1) l) → Octets (map (λ p. p .1) l)
+    → bitAnd n (numberOf (map mask l)) ≡ numberOf (map kept l)
 number-kept l n e o =
     ap (λ (m : ℕ). bitAnd m (numberOf (map mask l))) e ∙ number-each bitAnd refl and-block (λ p. p .1) mask l o (mask-octets l) ∙ ap numberOf (mask-kept l o)
 
@@ -155,13 +161,15 @@ by-two a b c d e f g h x (ha, (hb, (hc, (hd, (he, (hf, (hg, (hh, _)))))))) is =
 
 -- then four, and then all of them to one number
 module _ (p q r t : ℕ) (o : Octets (p ∷ q ∷ r ∷ t ∷ [])) where
-  by-four : (y : ℕ) → y ≡ numberOf (0 ∷ p ∷ 0 ∷ q ∷ 0 ∷ r ∷ 0 ∷ t ∷ []) → bitAnd (y + y / 256) 0x0000FFFF0000FFFF ≡ numberOf (0 ∷ 0 ∷ p ∷ q ∷ 0 ∷ 0 ∷ r ∷ t ∷ [])
+  by-four : (y : ℕ) → y ≡ numberOf (0 ∷ p ∷ 0 ∷ q ∷ 0 ∷ r ∷ 0 ∷ t ∷ [])
+      → bitAnd (y + y / 256) 0x0000FFFF0000FFFF ≡ numberOf (0 ∷ 0 ∷ p ∷ q ∷ 0 ∷ 0 ∷ r ∷ t ∷ [])
   unfolding numberOf
   by-four y is =
       number-kept ((false, 0) ∷ (false, p) ∷ (true, p) ∷ (true, q) ∷ (false, q) ∷ (false, r) ∷ (true, r) ∷ (true, t) ∷ []) (y + y / 256) (omega (arith, o .1 .1 .1 .0))
       (omega arith, (o .0, (o .0, (o .1 .0, (o .1 .0, (o .1 .1 .0, (o .1 .1 .0, (o .1 .1 .1 .0, tt))))))))
 
-  by-eight : (z : ℕ) → z ≡ numberOf (0 ∷ 0 ∷ p ∷ q ∷ 0 ∷ 0 ∷ r ∷ t ∷ []) → bitAnd (z + z / 65536) 0x00000000FFFFFFFF ≡ numberOf (p ∷ q ∷ r ∷ t ∷ [])
+  by-eight : (z : ℕ) → z ≡ numberOf (0 ∷ 0 ∷ p ∷ q ∷ 0 ∷ 0 ∷ r ∷ t ∷ [])
+      → bitAnd (z + z / 65536) 0x00000000FFFFFFFF ≡ numberOf (p ∷ q ∷ r ∷ t ∷ [])
   unfolding numberOf
   by-eight z is =
       number-kept ((false, 0) ∷ (false, 0) ∷ (false, p) ∷ (false, q) ∷ (true, p) ∷ (true, q) ∷ (true, r) ∷ (true, t) ∷ []) (z + z / 65536) (omega (arith, o .1 .1 .0, o .1 .1 .1 .0))
@@ -185,7 +193,8 @@ module _ (x : ℕ) (h : x < 256 ^ 8) (below : belowTen (octetsOf 8 x) ≡ true) 
   unfolding octetsOf
   below-fits = let k : Halves (octetsOf 8 x) = below-halves (octetsOf 8 x) (passes _ below) in omega (arith, k .0)
 
-  pub in-four : (y z : ℕ) → y ≡ bitAnd (x + x / 16) 0x00FF00FF00FF00FF → z ≡ bitAnd (y + y / 256) 0x0000FFFF0000FFFF → bitAnd (z + z / 65536) 0x00000000FFFFFFFF ≡ numberOf (pack (octetsOf 8 x))
+  pub in-four : (y z : ℕ) → y ≡ bitAnd (x + x / 16) 0x00FF00FF00FF00FF → z ≡ bitAnd (y + y / 256) 0x0000FFFF0000FFFF
+      → bitAnd (z + z / 65536) 0x00000000FFFFFFFF ≡ numberOf (pack (octetsOf 8 x))
   unfolding octetsOf pack
   in-four y z ey ez =
       let k : Halves (octetsOf 8 x) = below-halves (octetsOf 8 x) (passes _ below) in
@@ -283,7 +292,8 @@ filled-append v r e some =
     ap (λ (d : List ℕ). (v ++ d) ++ (15 ∷ [])) (drop-replicate (length v) 15 15 ∙ ap (λ (n : ℕ). replicate n 15) rest)
     ∙ append-assoc v (replicate (r - 1) 15) (15 ∷ []) ∙ ap (λ (d : List ℕ). v ++ d) (replicate-append-replicate {A = ℕ} (r - 1) 1 15 ∙ ap (λ (n : ℕ). replicate n 15) one)
 
-pub value-filled : (v : List ℕ) (r : ℕ) → length v + r ≡ 16 → 0 < r → numberOf (pack (padded 15 15 v)) ≡ valueIn 16 v * 16 ^ r + (16 ^ r - 1)
+pub value-filled : (v : List ℕ) (r : ℕ) → length v + r ≡ 16 → 0 < r
+    → numberOf (pack (padded 15 15 v)) ≡ valueIn 16 v * 16 ^ r + (16 ^ r - 1)
 value-filled v r e some =
     let size : length (padded 15 15 v) ≡ 15 = padded-length v 15 (omega arith) in
     let even : length (padded 15 15 v ++ (15 ∷ [])) % 2 ≡ 0 = omega (arith, length-append (padded 15 15 v) (15 ∷ [])) in
@@ -291,7 +301,8 @@ value-filled v r e some =
     ∙ ap₂ (λ (n w : ℕ). valueIn 16 v * 16 ^ n + w) (length-replicate {A = ℕ} r 15) (value-fifteens r)
 
 -- Of j and q digits, the first j and the last j make the number, with 15s behind it.
-value-ends : (v : List ℕ) (j q r : ℕ) → Halves v → length v ≡ j + q → q + r ≡ j → valueIn 16 v * 16 ^ r ≡ valueIn 16 (take j v) * 16 ^ j + valueIn 16 (drop q v) * 16 ^ r % 16 ^ j
+value-ends : (v : List ℕ) (j q r : ℕ) → Halves v → length v ≡ j + q → q + r ≡ j
+    → valueIn 16 v * 16 ^ r ≡ valueIn 16 (take j v) * 16 ^ j + valueIn 16 (drop q v) * 16 ^ r % 16 ^ j
 value-ends v j q r h e s =
     let size : length (drop j v) ≡ q = length-drop j v ∙ omega arith in
     let end : valueIn 16 (drop q v) % 16 ^ q ≡ valueIn 16 (drop j v) =
@@ -317,12 +328,14 @@ one-left k h = omega (arith, one-shifted k h, power-some k)
 pub low-fits : (x k : ℕ) → k ≤ 8 → Fits w64 (x % 18446744073709551616 % 65536 + (1 * 2 ^ (4 * k) % 18446744073709551616 - 1))
 low-fits x k h = omega (arith, one-shifted k h, pow-le-pow-right {n = 16} (omega arith) {i = k} {j = 8} h)
 
-long-shifted : (a b k : ℕ) → a < 16 ^ 8 → k ≤ 8 → a * 4294967296 % 18446744073709551616 + (b * 2 ^ (4 * k) % 18446744073709551616 % 4294967296 + (1 * 2 ^ (4 * k) % 18446744073709551616 - 1)) ≡ a * 16 ^ 8 + (b * 16 ^ k % 16 ^ 8 + (16 ^ k - 1))
+long-shifted : (a b k : ℕ) → a < 16 ^ 8 → k ≤ 8
+    → a * 4294967296 % 18446744073709551616 + (b * 2 ^ (4 * k) % 18446744073709551616 % 4294967296 + (1 * 2 ^ (4 * k) % 18446744073709551616 - 1)) ≡ a * 16 ^ 8 + (b * 16 ^ k % 16 ^ 8 + (16 ^ k - 1))
 long-shifted a b k ha h =
     ap₂ (λ (x y : ℕ). x + y) (shl-exact 32 32 64 ha (omega arith))
     (ap₂ (λ (x y : ℕ). x + (y - 1)) (mod-mod-pow (b * 2 ^ (4 * k)) 32 32 ∙ ap (λ (p : ℕ). b * p % 4294967296) (powers 2 4 k)) (one-shifted k h))
 
-short-shifted : (a b k : ℕ) → a < 16 ^ 4 → b < 16 ^ 4 → k ≤ 4 → (a * 65536 + b) / 65536 * 281474976710656 % 18446744073709551616 + (((a * 65536 + b) * 2 ^ (4 * k) % 18446744073709551616 % 65536 + (1 * 2 ^ (4 * k) % 18446744073709551616 - 1)) * 4294967296 % 18446744073709551616 + 4294967295) ≡ (a * 16 ^ 4 + (b * 16 ^ k % 16 ^ 4 + (16 ^ k - 1))) * 16 ^ 8 + (16 ^ 8 - 1)
+short-shifted : (a b k : ℕ) → a < 16 ^ 4 → b < 16 ^ 4 → k ≤ 4
+    → (a * 65536 + b) / 65536 * 281474976710656 % 18446744073709551616 + (((a * 65536 + b) * 2 ^ (4 * k) % 18446744073709551616 % 65536 + (1 * 2 ^ (4 * k) % 18446744073709551616 - 1)) * 4294967296 % 18446744073709551616 + 4294967295) ≡ (a * 16 ^ 4 + (b * 16 ^ k % 16 ^ 4 + (16 ^ k - 1))) * 16 ^ 8 + (16 ^ 8 - 1)
 short-shifted a b k ha hb h =
     let low : (a * 65536 + b) * 2 ^ (4 * k) % 18446744073709551616 % 65536 ≡ b * 16 ^ k % 65536 =
     mod-mod-pow ((a * 65536 + b) * 2 ^ (4 * k)) 48 16 ∙ ap (λ (p : ℕ). (a * 65536 + b) * p % 65536) (powers 2 4 k)
@@ -334,7 +347,8 @@ short-shifted a b k ha hb h =
 
 module _ (v : List ℕ) (h : Halves v) where
   -- the first eight of 8 to 15, and the last eight
-  pub long-filled : (a b k : ℕ) → 8 ≤ length v → length v ≤ 15 → length v + k ≡ 16 → a ≡ valueIn 16 (take 8 v) → b ≡ valueIn 16 (drop (length v - 8) v)
+  pub long-filled : (a b k : ℕ) → 8 ≤ length v → length v ≤ 15 → length v + k ≡ 16 → a ≡ valueIn 16 (take 8 v)
+      → b ≡ valueIn 16 (drop (length v - 8) v)
       → a * 4294967296 % 18446744073709551616 + (b * 2 ^ (4 * k) % 18446744073709551616 % 4294967296 + (1 * 2 ^ (4 * k) % 18446744073709551616 - 1)) ≡ numberOf (pack (padded 15 15 v))
   long-filled a b k some few e ea eb =
       let size : length (take 8 v) ≡ 8 = length-take-le 8 v some in
@@ -346,7 +360,8 @@ module _ (v : List ℕ) (h : Halves v) where
       ∙ sym (value-filled v k e (omega arith))
 
   -- the first four of 4 to 7, and the last four
-  pub short-filled : (a b x k : ℕ) → 4 ≤ length v → length v ≤ 7 → length v + k ≡ 8 → a ≡ valueIn 16 (take 4 v) → b ≡ valueIn 16 (drop (length v - 4) v) → x ≡ a * 65536 + b
+  pub short-filled : (a b x k : ℕ) → 4 ≤ length v → length v ≤ 7 → length v + k ≡ 8 → a ≡ valueIn 16 (take 4 v)
+      → b ≡ valueIn 16 (drop (length v - 4) v) → x ≡ a * 65536 + b
       → x / 65536 * 281474976710656 % 18446744073709551616 + ((x * 2 ^ (4 * k) % 18446744073709551616 % 65536 + (1 * 2 ^ (4 * k) % 18446744073709551616 - 1)) * 4294967296 % 18446744073709551616 + 4294967295) ≡ numberOf (pack (padded 15 15 v))
   short-filled a b x k some few e ea eb ex =
       let n : ℕ = length v - 4 in

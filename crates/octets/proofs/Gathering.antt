@@ -45,7 +45,8 @@ module _ (l : List ℕ) where
 -- ---- Two at a time from the end
 
 -- an octet put before those of the digits l makes those of the digits m
-put-before : (l m : List ℕ) (o : ℕ) → length l ≤ 13 → pack (padded 15 15 m) ≡ o ∷ pack (padded 13 15 l) → o * 256 ^ 7 + numberOf (pack (padded 15 15 l)) / 256 ≡ numberOf (pack (padded 15 15 m))
+put-before : (l m : List ℕ) (o : ℕ) → length l ≤ 13 → pack (padded 15 15 m) ≡ o ∷ pack (padded 13 15 l)
+    → o * 256 ^ 7 + numberOf (pack (padded 15 15 l)) / 256 ≡ numberOf (pack (padded 15 15 m))
 unfolding numberOf
 put-before l m o h e =
     let seven : length (pack (padded 13 15 l)) ≡ 7 = pack-length (padded 13 15 l) ∙ ap (λ (n : ℕ). (n + 1) / 2) (padded-length l 13 h) in
@@ -74,7 +75,8 @@ gathered-none text h =
     let none : drop (length text) text ≡ [] = drop-of-length-le text {i = length text} (omega arith) in
     record { even = h; within = omega arith; digits = rw none tt; is = rw none }
 
-pub gathered-odd : (text : List ℕ) → length text % 2 ≡ 1 → isDigit (getD text (length text - 1) 0) ≡ true → (o r : ℕ) → o ≡ getD text (length text - 1) 0 % 16 * 16 + 15 → r ≡ o * 256 ^ 7 + 18446744073709551615 / 256 → Gathered text (length text - 1) r
+pub gathered-odd : (text : List ℕ) → length text % 2 ≡ 1 → isDigit (getD text (length text - 1) 0) ≡ true → (o r : ℕ)
+    → o ≡ getD text (length text - 1) 0 % 16 * 16 + 15 → r ≡ o * 256 ^ 7 + 18446744073709551615 / 256 → Gathered text (length text - 1) r
 unfolding padded over pack numberOf values
 gathered-odd text h e o r oe re =
     let i : ℕ = length text - 1 in
@@ -90,7 +92,8 @@ gathered-odd text h e o r oe re =
     }
 
 module _ (text : List ℕ) (i p : ℕ) (u : Gathered text i p) where
-  pub gathered-more : 0 < i → length text ≤ 15 → isDigit (getD text (i - 2) 0) && isDigit (getD text (i - 1) 0) ≡ true → (o r : ℕ) → o ≡ getD text (i - 2) 0 % 16 * 16 + getD text (i - 1) 0 % 16 → r ≡ o * 256 ^ 7 + p / 256 → Gathered text (i - 2) r
+  pub gathered-more : 0 < i → length text ≤ 15 → isDigit (getD text (i - 2) 0) && isDigit (getD text (i - 1) 0) ≡ true → (o r : ℕ)
+      → o ≡ getD text (i - 2) 0 % 16 * 16 + getD text (i - 1) 0 % 16 → r ≡ o * 256 ^ 7 + p / 256 → Gathered text (i - 2) r
   unfolding padded over pack values
   gathered-more h few e o r oe re =
       let x : ℕ = getD text (i - 2) 0 in
@@ -166,7 +169,8 @@ values-drop (suc k) [] = refl
 values-drop (suc k) (x ∷ l) = values-drop k l
 
 -- eight digits, two to an octet
-eight-value : (l : List ℕ) (d x : ℕ) → length l ≡ 8 → T (all isDigit l) → octetsOf 8 d ≡ turnedOf l → x ≡ numberOf (pack (octetsOf 8 d)) → x ≡ valueIn 16 (values l)
+eight-value : (l : List ℕ) (d x : ℕ) → length l ≡ 8 → T (all isDigit l) → octetsOf 8 d ≡ turnedOf l → x ≡ numberOf (pack (octetsOf 8 d))
+    → x ≡ valueIn 16 (values l)
 eight-value l d x e t o h = h ∙ ap (λ (m : List ℕ). numberOf (pack m)) (o ∙ values-turned l t) ∙ value-packed (values l) (omega (arith, values-length l))
 
 module _ (text : List ℕ) where
@@ -174,7 +178,8 @@ module _ (text : List ℕ) where
   whole-halves e = values-halves text (digits-hexes text (passes _ e))
 
   -- the first and the last of a text cover it
-  ends-test : (n : ℕ) → n ≤ length text → length text ≤ n + n → all isDigit (partOf text 0 n) && all isDigit (partOf text (length text - n) n) ≡ all isDigit text
+  ends-test : (n : ℕ) → n ≤ length text → length text ≤ n + n
+      → all isDigit (partOf text 0 n) && all isDigit (partOf text (length text - n) n) ≡ all isDigit text
   unfolding partOf
   ends-test n some few =
       ap (λ (l : List ℕ). all isDigit (take n text) && all isDigit l) (part-rest text (length text - n) n (omega arith))
@@ -184,13 +189,15 @@ module _ (text : List ℕ) where
   unfolding partOf
   first-value n = ap (valueIn 16) (values-take n text)
 
-  last-value : (n : ℕ) → n ≤ length text → valueIn 16 (values (partOf text (length text - n) n)) ≡ valueIn 16 (drop (length (values text) - n) (values text))
+  last-value : (n : ℕ) → n ≤ length text
+      → valueIn 16 (values (partOf text (length text - n) n)) ≡ valueIn 16 (drop (length (values text) - n) (values text))
   last-value n h =
       ap (λ (l : List ℕ). valueIn 16 (values l)) (part-rest text (length text - n) n (omega arith))
       ∙ ap (valueIn 16) (values-drop (length text - n) text ∙ ap (λ (m : ℕ). drop (m - n) (values text)) (sym (values-length text)))
 
   -- 8 to 15 digits
-  module _ (a b : ℕ) (some : 8 ≤ length text) (few : length text ≤ 15) (ea : octetsOf 8 a ≡ turnedOf (partOf text 0 8)) (eb : octetsOf 8 b ≡ turnedOf (partOf text (length text - 8) 8)) where
+  module _ (a b : ℕ) (some : 8 ≤ length text) (few : length text ≤ 15) (ea : octetsOf 8 a ≡ turnedOf (partOf text 0 8))
+      (eb : octetsOf 8 b ≡ turnedOf (partOf text (length text - 8) 8)) where
     pub long-test : (p q : ℕ) → eqb p 0 ≡ belowTen (octetsOf 8 a) → eqb q 0 ≡ belowTen (octetsOf 8 b) → eqb (bitOr p q) 0 ≡ all isDigit text
     long-test p q ep eq =
         or-none p q ∙ ap₂ _&&_ (ep ∙ ap belowTen ea ∙ digits-turned (partOf text 0 8)) (eq ∙ ap belowTen eb ∙ digits-turned (partOf text (length text - 8) 8)) ∙ ends-test 8 some (omega arith)
@@ -206,7 +213,8 @@ module _ (text : List ℕ) where
         ∙ sym (gathered-digits text few e)
 
   -- 4 to 7 digits
-  module _ (a b d : ℕ) (o : Octets text) (some : 4 ≤ length text) (few : length text ≤ 7) (ea : a ≡ numberOf (partOf text 0 4)) (eb : b ≡ numberOf (partOf text (length text - 4) 4)) (ed : octetsOf 8 d ≡ turnedOf (octetsOf 8 (a * 4294967296 + b))) where
+  module _ (a b d : ℕ) (o : Octets text) (some : 4 ≤ length text) (few : length text ≤ 7) (ea : a ≡ numberOf (partOf text 0 4))
+      (eb : b ≡ numberOf (partOf text (length text - 4) 4)) (ed : octetsOf 8 d ≡ turnedOf (octetsOf 8 (a * 4294967296 + b))) where
     last-four : length (partOf text (length text - 4) 4) ≡ 4
     last-four = part-within text (length text - 4) 4 (omega arith)
 
@@ -281,7 +289,8 @@ got-nothing l p e z = go (leb (length l) 15) (all isDigit l) refl refl
         absurd (omega (arith, gathered-some l few g))
 
 -- What is gathered, spread again, is what is got.
-pub got-gathered : (l : List ℕ) (p : ℕ) → p ≡ gatheredOf l → (p ≡ 0 → ⊥) → {d : Digits} → d .octets ≡ unpack 15 (octetsOf 8 p) → d .len ≡ length l → d ≡ gotOf l
+pub got-gathered : (l : List ℕ) (p : ℕ) → p ≡ gatheredOf l → (p ≡ 0 → ⊥) → {d : Digits} → d .octets ≡ unpack 15 (octetsOf 8 p)
+    → d .len ≡ length l → d ≡ gotOf l
 unfolding digitsOf
 got-gathered l p e some {d} oe le = go (leb (length l) 15) (all isDigit l) refl refl
   where

@@ -47,13 +47,15 @@ module _ (l : List ℕ) where
   halves-past k e h = List·getD-eq-default (halves l) e (omega (arith, halves-length))
 
   -- the octet of two halves, and that of an odd last one
-  pub halves-two : (i : ℕ) → i < length l / 2 → (high low x : ℕ) → high ≡ digitValue (getD l (2 * i) 0) % 16 → low ≡ digitValue (getD l (2 * i + 1) 0) % 16 → x ≡ high * 16 + low → x ≡ getD (pack (halves l)) i 0
+  pub halves-two : (i : ℕ) → i < length l / 2 → (high low x : ℕ) → high ≡ digitValue (getD l (2 * i) 0) % 16
+      → low ≡ digitValue (getD l (2 * i + 1) 0) % 16 → x ≡ high * 16 + low → x ≡ getD (pack (halves l)) i 0
   halves-two i h high low x p q r =
       r
       ∙ ap₂ (λ (a b : ℕ). a * 16 + b) (p ∙ sym (halves-at (2 * i) 15 (omega arith))) (q ∙ sym (halves-at (2 * i + 1) 15 (omega arith)))
       ∙ sym (pair-at (halves l) i (omega (arith, halves-length)))
 
-  pub halves-one : (i : ℕ) → length l / 2 ≤ i → 2 * i < length l → (high x : ℕ) → high ≡ digitValue (getD l (2 * i) 0) % 16 → x ≡ high * 16 + 15 → x ≡ getD (pack (halves l)) i 0
+  pub halves-one : (i : ℕ) → length l / 2 ≤ i → 2 * i < length l → (high x : ℕ) → high ≡ digitValue (getD l (2 * i) 0) % 16
+      → x ≡ high * 16 + 15 → x ≡ getD (pack (halves l)) i 0
   halves-one i h k high x p r =
       r
       ∙ ap₂ (λ (a b : ℕ). a * 16 + b) (p ∙ sym (halves-at (2 * i) 15 k)) (sym (halves-past (2 * i + 1) 15 (omega arith)))

@@ -8,3 +8,4 @@ pub mod DigitStrings
 pub mod Eights
 pub mod Gathering
 pub mod Unpacking
+pub mod Handing

@@ -12,7 +12,7 @@ use lib.Dec.{leb}
 use lib.ListN.{length, take, drop, getD, set, length-append, length-take, length-drop, length-set, drop-of-length-le}
 use lib.Seq.{length-take-le, take-length, take-all, take-suc, drop-cons, drop-drop, drop-append-add, take-add, paste, paste-zero, paste-suc, set-at, append-snoc, take-at, drop-at}
 use Rattle.meaning.specs.Answers.{over}
-use Rattle.octets.specs.Parts.{partOf, Written, fitsAt, laidAt, Laid}
+use Rattle.octets.specs.Parts.{partOf, Overlaid, fitsAt, laidAt, Laid}
 
 pub over-none : (d : List ℕ) → over [] d ≡ d
 unfolding over
@@ -47,11 +47,11 @@ over-again s t d h =
 
 -- ---- By a loop
 
-pub written-none : (s d : List ℕ) → length s ≤ length d → Written s d d 0
-written-none s d h = record { within = omega arith; room = h; kept = refl; is = sym (over-none d) }
+pub overlaid-none : (s d : List ℕ) → length s ≤ length d → Overlaid s d d 0
+overlaid-none s d h = record { within = omega arith; room = h; kept = refl; is = sym (over-none d) }
 
-pub written-more : (s d out : List ℕ) (i x : ℕ) → Written s d out i → i < length s → x ≡ getD s i 0 → Written s d (set out i x) (i + 1)
-written-more s d out i x w h e =
+pub overlaid-more : (s d out : List ℕ) (i x : ℕ) → Overlaid s d out i → i < length s → x ≡ getD s i 0 → Overlaid s d (set out i x) (i + 1)
+overlaid-more s d out i x w h e =
     record {
       within = omega arith;
       room = w .room;
@@ -60,12 +60,12 @@ written-more s d out i x w h e =
           ∙ ap (λ (t : List ℕ). over t d) (rw (add-one i, take-suc s i 0 h, e));
     }
 
-pub written-all : (s d out : List ℕ) (i : ℕ) → Written s d out i → length s ≤ i → out ≡ over s d
-written-all s d out i w h = let e : i ≡ length s = omega (arith, w .within) in w .is ∙ rw (e, take-length s)
+pub overlaid-all : (s d out : List ℕ) (i : ℕ) → Overlaid s d out i → length s ≤ i → out ≡ over s d
+overlaid-all s d out i w h = let e : i ≡ length s = omega (arith, w .within) in w .is ∙ rw (e, take-length s)
 
 -- What is written stands there for whoever writes the rest.
-pub written-begun : (s d out : List ℕ) (i : ℕ) → Written s d out i → Written s out out i
-written-begun s d out i w =
+pub overlaid-begun : (s d out : List ℕ) (i : ℕ) → Overlaid s d out i → Overlaid s out out i
+overlaid-begun s d out i w =
     let t : List ℕ = take i s in
     record {
       within = w .within;
@@ -75,9 +75,9 @@ written-begun s d out i w =
     }
 
 -- So do fewer of them: some may be written again.
-pub written-before : (s d out : List ℕ) (i j : ℕ) → Written s d out i → j ≤ i → Written s out out j
+pub overlaid-before : (s d out : List ℕ) (i j : ℕ) → Overlaid s d out i → j ≤ i → Overlaid s out out j
 unfolding over
-written-before s d out i j w h =
+overlaid-before s d out i j w h =
     let t : List ℕ = take j s in
     let rest : List ℕ = take (i - j) (drop j s) ++ drop (length (take i s)) d in
     let n : length t ≡ j = length-take-le j s (omega (arith, w .within)) in
@@ -92,8 +92,8 @@ written-before s d out i j w h =
     }
 
 -- And the rest may be written by another.
-pub written-on : (s d out out′ : List ℕ) (i j : ℕ) → Written s d out i → Written s out out′ j → i ≤ j → Written s d out′ j
-written-on s d out out′ i j w v h =
+pub overlaid-on : (s d out out′ : List ℕ) (i j : ℕ) → Overlaid s d out i → Overlaid s out out′ j → i ≤ j → Overlaid s d out′ j
+overlaid-on s d out out′ i j w v h =
     record {
       within = v .within;
       room = w .room;
@@ -102,8 +102,8 @@ written-on s d out out′ i j w v h =
     }
 
 -- To the end, too.
-pub written-end : (s d out out′ : List ℕ) (i : ℕ) → Written s d out i → out′ ≡ over s out → out′ ≡ over s d
-written-end s d out out′ i w e = e ∙ ap (over s) (w .is) ∙ over-again s (take i s) d (omega (arith, length-take-le i s (w .within), w .within))
+pub overlaid-end : (s d out out′ : List ℕ) (i : ℕ) → Overlaid s d out i → out′ ≡ over s out → out′ ≡ over s d
+overlaid-end s d out out′ i w e = e ∙ ap (over s) (w .is) ∙ over-again s (take i s) d (omega (arith, length-take-le i s (w .within), w .within))
 
 -- ---- From a place on
 
@@ -152,7 +152,8 @@ pub laid-first : (s d : List ℕ) → length s ≤ length d → laidAt 0 s d ≡
 laid-first s d h = laid-fits 0 s d (omega arith)
 
 -- Laid right behind what a buffer holds already, both stand there, one behind the other.
-pub laid-behind : (s t d held : List ℕ) (at : ℕ) → length s ≡ at → held ≡ over s d → at + length t ≤ length d → laidAt at t held ≡ over (s ++ t) d
+pub laid-behind : (s t d held : List ℕ) (at : ℕ) → length s ≡ at → held ≡ over s d → at + length t ≤ length d
+    → laidAt at t held ≡ over (s ++ t) d
 unfolding over
 laid-behind s t d held at n e h =
     let size : length (over s d) ≡ length d = over-length s d (omega arith) in
@@ -161,9 +162,10 @@ laid-behind s t d held at n e h =
     ∙ rw (take-at s (drop (length s) d) at n, drop-at s (drop (length s) d) at n, drop-drop (length t) (length s) d, length-append s t, append-assoc s t)
 
 -- So a part of what is written, laid right behind what was written of it, is written too.
-pub written-part : (s d out t o : List ℕ) (i n j : ℕ) → Written s d out i → j ≡ i + n → j ≤ length s → t ≡ partOf s i n → o ≡ laidAt i t out → Written s d o j
+pub overlaid-part : (s d out t o : List ℕ) (i n j : ℕ) → Overlaid s d out i → j ≡ i + n → j ≤ length s → t ≡ partOf s i n
+    → o ≡ laidAt i t out → Overlaid s d o j
 unfolding partOf
-written-part s d out t o i n j w j-is h p q =
+overlaid-part s d out t o i n j w j-is h p q =
     let part : t ≡ take n (drop i s) = p in
     let size : length t ≡ n = ap length part ∙ length-take n (drop i s) ∙ omega (arith, length-drop i s) in
     record {
@@ -218,7 +220,8 @@ module _ (at : ℕ) (s d : List ℕ) (room : at + length s ≤ length d) where
   each-laid n e = pasted-all at s d (eachTo at s d n) (suc n) (each-pasted n (omega arith)) (omega arith)
 
 -- Laid one behind the other, two pieces stand as one.
-pub laid-two : (at n : ℕ) (s t d : List ℕ) → length s ≡ n → at + (n + length t) ≤ length d → laidAt (at + n) t (laidAt at s d) ≡ laidAt at (s ++ t) d
+pub laid-two : (at n : ℕ) (s t d : List ℕ) → length s ≡ n → at + (n + length t) ≤ length d
+    → laidAt (at + n) t (laidAt at s d) ≡ laidAt at (s ++ t) d
 unfolding over
 laid-two at n s t d size fits =
     let front : List ℕ = take at d in
@@ -236,7 +239,8 @@ laid-two at n s t d size fits =
     ∙ sym (laid-fits at (s ++ t) d (omega arith)))
 
 -- So do two parts of s, as one part.
-pub laid-parts : (at n m : ℕ) (s d k l held out : List ℕ) → n + m ≤ length s → at + (n + m) ≤ length d → k ≡ partOf s 0 n → l ≡ partOf s n m → held ≡ laidAt at k d → out ≡ laidAt (at + n) l held → Laid at (partOf s 0 (n + m)) d true out
+pub laid-parts : (at n m : ℕ) (s d k l held out : List ℕ) → n + m ≤ length s → at + (n + m) ≤ length d → k ≡ partOf s 0 n → l ≡ partOf s n m
+    → held ≡ laidAt at k d → out ≡ laidAt (at + n) l held → Laid at (partOf s 0 (n + m)) d true out
 unfolding partOf
 laid-parts at n m s d k l held out h room ek el eh eo =
     let size : length (take (n + m) s) ≡ n + m = length-take-le (n + m) s h in
@@ -270,7 +274,8 @@ module _ (at : ℕ) (s d : List ℕ) (n : ℕ) (fit : Bool) (size : n ≡ length
   laid-not e = record { says = sym e ∙ fit-is; holds = sym (laid-none at s d (sym fit-is ∙ e)) }
 
   -- `putMid` is how the borrow checker puts a lent part back: what was laid over the start of the part, said of the whole
-  pub laid-part : (p : List ℕ) → fit ≡ true → p ≡ over s (take (length d - at) (drop at d)) → Laid at s d true (putMid at (length d - at) d p)
+  pub laid-part : (p : List ℕ) → fit ≡ true → p ≡ over s (take (length d - at) (drop at d))
+      → Laid at s d true (putMid at (length d - at) d p)
   laid-part p e q =
       let room : at + n ≤ length d = laid-room e in
       let all : take (length d - at) (drop at d) ≡ drop at d = take-all (length d - at) (drop at d) (omega (arith, length-drop at d)) in
@@ -284,9 +289,11 @@ module _ (at : ℕ) (s d : List ℕ) (n : ℕ) (fit : Bool) (size : n ≡ length
 pub laid-short : (at : ℕ) (s d : List ℕ) → length d < at + length s → Laid at s d false d
 laid-short at s d h = laid-not at s d (length s) _ refl refl (lt-leb (at + length s) (length d) h)
 
-pub laid-there : (at : ℕ) (s d p : List ℕ) → at + length s ≤ length d → p ≡ over s (take (length d - at) (drop at d)) → Laid at s d true (putMid at (length d - at) d p)
+pub laid-there : (at : ℕ) (s d p : List ℕ) → at + length s ≤ length d → p ≡ over s (take (length d - at) (drop at d))
+    → Laid at s d true (putMid at (length d - at) d p)
 laid-there at s d p h q = laid-part at s d (length s) _ refl refl p (le-leb (at + length s) (length d) h) q
 
 -- Any two answers that a writer's promise permits are the same, the buffer included.
-pub one-laid : (at : ℕ) (s d : List ℕ) (said said′ : Bool) (held held′ : List ℕ) → Laid at s d said held → Laid at s d said′ held′ → (said ≡ said′) × (held ≡ held′)
+pub one-laid : (at : ℕ) (s d : List ℕ) (said said′ : Bool) (held held′ : List ℕ) → Laid at s d said held → Laid at s d said′ held′
+    → (said ≡ said′) × (held ≡ held′)
 one-laid at s d said said′ held held′ p q = (p .says ∙ sym (q .says), p .holds ∙ sym (q .holds))

@@ -61,7 +61,8 @@ part-placed l at n h = placed-part l at 0 n (omega arith) ∙ ap (λ (i : ℕ). 
 pub all-placed : (l : List ℕ) (n : ℕ) → length l ≡ n → placed l 0 0 n ≡ l
 all-placed l n e = part-placed l 0 n (omega arith) ∙ part-rest l 0 n (omega arith)
 
-pub part-four : (l : List ℕ) (at a b c d : ℕ) → at + 4 ≤ length l → a ≡ getD l at 0 → b ≡ getD l (at + 1) 0 → c ≡ getD l (at + 2) 0 → d ≡ getD l (at + 3) 0 → a ∷ b ∷ c ∷ d ∷ [] ≡ partOf l at 4
+pub part-four : (l : List ℕ) (at a b c d : ℕ) → at + 4 ≤ length l → a ≡ getD l at 0 → b ≡ getD l (at + 1) 0 → c ≡ getD l (at + 2) 0
+    → d ≡ getD l (at + 3) 0 → a ∷ b ∷ c ∷ d ∷ [] ≡ partOf l at 4
 part-four l at a b c d h p q r t = rw (p, q, r, t) (rw (add-zero at) at (part-placed l at 4 h))
 
 -- a slice holds octets, by what is known of its elements

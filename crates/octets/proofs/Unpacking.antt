@@ -13,8 +13,8 @@ use Rattle.meaning.specs.Octets.{all, same, pack, unpack, packedLength, isDigit
 use Rattle.meaning.specs.Answers.{over}
 use Rattle.meaning.proofs.Tests.{parts, passes, is-true}
 use Rattle.octets.specs.DigitStrings.{packedDigits, decimals}
-use Rattle.octets.specs.Parts.{Written}
-use Rattle.octets.proofs.Overs.{written-more}
+use Rattle.octets.specs.Parts.{Overlaid}
+use Rattle.octets.proofs.Overs.{overlaid-more}
 use Rattle.octets.proofs.Halves.{map-at}
 
 -- ---- The text of halves
@@ -76,14 +76,15 @@ module _ (f : ℕ → ℕ) (c : ℕ) (s : List ℕ) where
   low-at i h here = map-at f (unpack c s) (2 * i + 1) 0 0 (omega (arith, unpack-size c s)) ∙ ap f (unpack-low c s i h here)
 
   -- a loop over the octets has written the halves before i, and writes the next
-  module _ (d out : List ℕ) (i : ℕ) (w : Written (map f (unpack c s)) d out (2 * i)) (here : i < length s) where
-    pub high-written : (y : ℕ) → 2 * i < c → y ≡ f (getD s i 0 / 16) → Written (map f (unpack c s)) d (set out (2 * i) y) (2 * i + 1)
-    high-written y h e = written-more _ _ _ _ _ w (omega (arith, each-length)) (e ∙ sym (high-at i h here))
+  module _ (d out : List ℕ) (i : ℕ) (w : Overlaid (map f (unpack c s)) d out (2 * i)) (here : i < length s) where
+    pub high-written : (y : ℕ) → 2 * i < c → y ≡ f (getD s i 0 / 16) → Overlaid (map f (unpack c s)) d (set out (2 * i) y) (2 * i + 1)
+    high-written y h e = overlaid-more _ _ _ _ _ w (omega (arith, each-length)) (e ∙ sym (high-at i h here))
 
-    pub two-written : (y z : ℕ) → 2 * i + 1 < c → y ≡ f (getD s i 0 / 16) → z ≡ f (getD s i 0 % 16) → Written (map f (unpack c s)) d (set (set out (2 * i) y) (2 * i + 1) z) (2 * (i + 1))
+    pub two-written : (y z : ℕ) → 2 * i + 1 < c → y ≡ f (getD s i 0 / 16) → z ≡ f (getD s i 0 % 16)
+        → Overlaid (map f (unpack c s)) d (set (set out (2 * i) y) (2 * i + 1) z) (2 * (i + 1))
     two-written y z h e g =
         let next : 2 * (i + 1) ≡ 2 * i + 1 + 1 = omega arith in
-        rw next (written-more _ _ _ _ _ (high-written y (omega arith) e) (omega (arith, each-length)) (g ∙ sym (low-at i h here)))
+        rw next (overlaid-more _ _ _ _ _ (high-written y (omega arith) e) (omega (arith, each-length)) (g ∙ sym (low-at i h here)))
 
 pub unpacked-length : (c : ℕ) (s : List ℕ) → length (text (unpack c s)) ≡ min c (2 * length s)
 unfolding text
@@ -170,7 +171,8 @@ pub decided-none : (c : ℕ) (s : List ℕ) → length s ≡ packedLength c → 
 decided-none c s e = let n : c ≡ c - 2 * 0 = omega arith in record { size = e; within = omega arith; rest = ap (λ (m : ℕ). packedDigits m s) n }
 
 module _ (c : ℕ) (s : List ℕ) (i : ℕ) (u : Decided c s i) where
-  two-decide : i < c / 2 → packedDigits c s ≡ (leb (getD s i 0 / 16) 9 && leb (getD s i 0 % 16) 9) && packedDigits (c - 2 * (i + 1)) (drop (i + 1) s)
+  two-decide : i < c / 2
+      → packedDigits c s ≡ (leb (getD s i 0 / 16) 9 && leb (getD s i 0 % 16) 9) && packedDigits (c - 2 * (i + 1)) (drop (i + 1) s)
   two-decide h =
       let n : c - 2 * i ≡ suc (suc (c - 2 * (i + 1))) = omega arith in
       let front : drop i s ≡ getD s i 0 ∷ drop (i + 1) s = rw (add-one i) (drop-cons s i 0 (omega (arith, u .size))) in

@@ -18,7 +18,7 @@ pub record Numbered (l : List ℕ) (r : ℕ) : Type 0 where
   pub fits : r < 256 ^ length l
 
 -- out is the buffer d with the first i of s over its start, and d has room for the rest of s
-pub record Written (s d out : List ℕ) (i : ℕ) : Type 0 where
+pub record Overlaid (s d out : List ℕ) (i : ℕ) : Type 0 where
   pub within : i ≤ length s
   pub room : length s ≤ length d
   pub kept : length out ≡ length d

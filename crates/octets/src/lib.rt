@@ -8,7 +8,7 @@ ghost use lib.Dec.{eqb, leb};
 ghost use lib.ListN.{length, getD};
 ghost use Rattle.meaning.specs.Octets.{all, numberOf, octetsOf, pack, unpack, packedLength, isDigit, isHex, digitValue, digitText, text};
 ghost use Rattle.meaning.specs.Answers.{over};
-ghost use Rattle.octets.specs.Parts.{partOf, Numbered, Written, laidAt, Laid};
+ghost use Rattle.octets.specs.Parts.{partOf, Numbered, Overlaid, laidAt, Laid};
 ghost use Rattle.octets.specs.DigitStrings.{halves, digitsOf, gatheredOf, gotOf, eightOf, turnedOf, belowTen};
 
 // "at most fifteen digits together with their count": the digits' values, with 15s behind them.
@@ -185,8 +185,8 @@ fn lay_at(buf: &mut [u8], at: usize, s: &[u8])
 // Copies the eight octets of `src` at a place, where those before it are copied. All are read before any is written, so
 // that they can go as one.
 fn copy_eight(buf: &mut [u8], src: &[u8], at: usize)
-    requires { ⌜ Written (now src) (now buf) (now buf) at × (at + 8 ≤ length (now src)) ⌝ }
-    ensures { λ _. ⌜ Written (now (src .entry)) (now (buf .entry)) (now (buf .exit)) (at + 8) ⌝ }
+    requires { ⌜ Overlaid (now src) (now buf) (now buf) at × (at + 8 ≤ length (now src)) ⌝ }
+    ensures { λ _. ⌜ Overlaid (now (src .entry)) (now (buf .entry)) (now (buf .exit)) (at + 8) ⌝ }
 {
     let first = four_at(src, at);
     let second = four_at(src, at + 4);
@@ -600,8 +600,8 @@ fn two_halves(text: &[u8], i: usize) -> u8
 
 // Writes eight octets of the packed halves of a text at a place, where those before it are written.
 fn pack_eight(buf: &mut [u8], text: &[u8], at: usize)
-    requires { ⌜ Written (pack (halves (now text))) (now buf) (now buf) at × (at + 8 ≤ length (now text) / 2) ⌝ }
-    ensures { λ _. ⌜ Written (pack (halves (now (text .entry)))) (now (buf .entry)) (now (buf .exit)) (at + 8) ⌝ }
+    requires { ⌜ Overlaid (pack (halves (now text))) (now buf) (now buf) at × (at + 8 ≤ length (now text) / 2) ⌝ }
+    ensures { λ _. ⌜ Overlaid (pack (halves (now (text .entry)))) (now (buf .entry)) (now (buf .exit)) (at + 8) ⌝ }
 {
     let eight = [
         two_halves(text, at),
@@ -619,7 +619,7 @@ fn pack_eight(buf: &mut [u8], text: &[u8], at: usize)
 // Writes what is left of the packed halves of a text from a place on, where the octets before it are written; "an odd last
 // low half is 15".
 fn pack_rest(buf: &mut [u8], text: &[u8], at: usize)
-    requires { ⌜ Written (pack (halves (now text))) (now buf) (now buf) at × (at ≤ length (now text) / 2) ⌝ }
+    requires { ⌜ Overlaid (pack (halves (now text))) (now buf) (now buf) at × (at ≤ length (now text) / 2) ⌝ }
     ensures { λ _. ⌜ now (buf .exit) ≡ over (pack (halves (now (text .entry)))) (now (buf .entry)) ⌝ }
 {
     let pairs = text.len() / 2;

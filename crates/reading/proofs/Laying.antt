@@ -20,10 +20,11 @@ use Rattle.area.specs.declared.Part.{Part}
 use Rattle.shape.specs.declared.Item.{Item}
 use Rattle.shape.specs.declared.Value.the-variants as is
 use Rattle.shape.specs.Items.{storedPart, storedValue, storedIn}
-use Rattle.reading.specs.Items.{namesOf, itemIn, Within, Put, sheetHead}
+use Rattle.reading.specs.Items.{namesOf, itemIn, Within, LaidCounted, sheetHead}
 
 -- A writer of exactly the octets s, which have room there, has put them.
-pub put-laid : (at n : ℕ) (s t d out : List ℕ) → t ≡ s → n ≡ length s → at + length t ≤ length d → out ≡ laidAt at s d → Put at t d n out
+pub put-laid : (at n : ℕ) (s t d out : List ℕ) → t ≡ s → n ≡ length s → at + length t ≤ length d → out ≡ laidAt at s d
+    → LaidCounted at t d n out
 put-laid at n s t d out same size room e =
     record {
       says = size ∙ ap length (sym same);
@@ -31,21 +32,24 @@ put-laid at n s t d out same size room e =
     }
 
 -- what was put, by another name
-pub put-as : (at n : ℕ) (s t d out : List ℕ) → t ≡ s → Put at s d n out → Put at t d n out
-put-as at n s t d out same w = subst (λ (r : List ℕ). Put at r d n out) (sym same) w
+pub put-as : (at n : ℕ) (s t d out : List ℕ) → t ≡ s → LaidCounted at s d n out → LaidCounted at t d n out
+put-as at n s t d out same w = subst (λ (r : List ℕ). LaidCounted at r d n out) (sym same) w
 
 -- a number, by the form, and an address
-pub put-octet : (f n at : ℕ) (d : List ℕ) → f ≡ 7 → at + 4 ≤ length d → Put at (cond (eqb f 7) ((n % 256) ∷ []) (octetsOf 4 n)) d 1 (set d at (n % 256))
+pub put-octet : (f n at : ℕ) (d : List ℕ) → f ≡ 7 → at + 4 ≤ length d
+    → LaidCounted at (cond (eqb f 7) ((n % 256) ∷ []) (octetsOf 4 n)) d 1 (set d at (n % 256))
 put-octet f n at d e room =
     let one : List ℕ = (n % 256) ∷ [] in
     let same : cond (eqb f 7) one (octetsOf 4 n) ≡ one = rw (eq-eqb f 7 e) in
     put-laid at 1 one _ d _ same refl (omega (arith, ap length same)) (each-laid at one d (omega arith) 0 refl)
 
-pub put-address : (n at : ℕ) (four d out : List ℕ) → four ≡ octetsOf 4 n → at + 4 ≤ length d → out ≡ laidAt at four d → Put at (octetsOf 4 n) d 4 out
+pub put-address : (n at : ℕ) (four d out : List ℕ) → four ≡ octetsOf 4 n → at + 4 ≤ length d → out ≡ laidAt at four d
+    → LaidCounted at (octetsOf 4 n) d 4 out
 unfolding octetsOf
 put-address n at four d out q room h = put-laid at 4 four _ d out (sym q) (sym (ap length q)) room h
 
-pub put-word : (f n at : ℕ) (four d out : List ℕ) → (f ≡ 7 → ⊥) → four ≡ octetsOf 4 n → at + 4 ≤ length d → out ≡ laidAt at four d → Put at (cond (eqb f 7) ((n % 256) ∷ []) (octetsOf 4 n)) d 4 out
+pub put-word : (f n at : ℕ) (four d out : List ℕ) → (f ≡ 7 → ⊥) → four ≡ octetsOf 4 n → at + 4 ≤ length d → out ≡ laidAt at four d
+    → LaidCounted at (cond (eqb f 7) ((n % 256) ∷ []) (octetsOf 4 n)) d 4 out
 put-word f n at four d out e q room h = put-as at 4 _ _ d out (rw (ne-eqb f 7 e)) (put-address n at four d out q room h)
 
 -- ---- The forms of plain octets
@@ -54,7 +58,8 @@ pub part-5 : (f : ℕ) (v : List ℕ) → f ≡ 5 → storedPart f v ≡ pack (h
 unfolding storedPart
 part-5 f v e = rw (eq-eqb f 5 e)
 
-pub part-6 : (f : ℕ) (v : List ℕ) → (f ≡ 5 → ⊥) → f ≡ 6 → storedPart f v ≡ ((digitValue (getD v 0 0) * 10 + digitValue (getD v 1 0)) % 256) ∷ pack (halves (drop 3 v))
+pub part-6 : (f : ℕ) (v : List ℕ) → (f ≡ 5 → ⊥) → f ≡ 6
+    → storedPart f v ≡ ((digitValue (getD v 0 0) * 10 + digitValue (getD v 1 0)) % 256) ∷ pack (halves (drop 3 v))
 unfolding storedPart
 part-6 f v d e = rw (ne-eqb f 5 d, eq-eqb f 6 e)
 
@@ -66,13 +71,18 @@ part-plain f v d e = rw (ne-eqb f 5 d, ne-eqb f 6 e)
 rest-long : (v : List ℕ) → length (pack (halves (drop 3 v))) ≡ packedLength (length v - 3)
 rest-long v = halves-packed (drop 3 v) ∙ ap packedLength (length-drop 3 v)
 
-pub qos-room : (f at room : ℕ) (v : List ℕ) → (f ≡ 5 → ⊥) → f ≡ 6 → at + length (storedPart f v) + 16 ≤ room → at + (1 + packedLength (length v - 3)) ≤ room
+pub qos-room : (f at room : ℕ) (v : List ℕ) → (f ≡ 5 → ⊥) → f ≡ 6 → at + length (storedPart f v) + 16 ≤ room
+    → at + (1 + packedLength (length v - 3)) ≤ room
 qos-room f at room v d e h = omega (arith, ap length (part-6 f v d e), rest-long v)
 
 -- ---- What the writers lay
 
 -- the release octet and then the packed digits
-pub qos-put : (v digits : List ℕ) (release at size : ℕ) (buf first out : List ℕ) → release ≡ (digitValue (getD v 0 0) * 10 + digitValue (getD v 1 0)) % 256 → digits ≡ partOf v 3 (length v) → size ≡ packedLength (length v - 3) → at + (1 + packedLength (length v - 3)) ≤ length buf → first ≡ laidAt at (release ∷ []) buf → out ≡ laidAt (at + 1) (pack (halves digits)) first → Put at (((digitValue (getD v 0 0) * 10 + digitValue (getD v 1 0)) % 256) ∷ pack (halves (drop 3 v))) buf (1 + size) out
+pub qos-put : (v digits : List ℕ) (release at size : ℕ) (buf first out : List ℕ)
+    → release ≡ (digitValue (getD v 0 0) * 10 + digitValue (getD v 1 0)) % 256 → digits ≡ partOf v 3 (length v)
+    → size ≡ packedLength (length v - 3) → at + (1 + packedLength (length v - 3)) ≤ length buf → first ≡ laidAt at (release ∷ []) buf
+    → out ≡ laidAt (at + 1) (pack (halves digits)) first
+    → LaidCounted at (((digitValue (getD v 0 0) * 10 + digitValue (getD v 1 0)) % 256) ∷ pack (halves (drop 3 v))) buf (1 + size) out
 unfolding partOf
 qos-put v digits release at size buf first out r q n room f h =
     let e : digits ≡ drop 3 v = q ∙ take-all (length v) (drop 3 v) (omega (arith, length-drop 3 v)) in
@@ -84,7 +94,8 @@ qos-put v digits release at size buf first out r q n room f h =
     }
 
 -- the octets of a digit string, which eight octets start with
-pub digits-put : (d : Digits) (at n size : ℕ) (eight buf out : List ℕ) → eight ≡ eightOf d → n ≡ min (d .len) 15 → size ≡ packedLength n → at + 8 ≤ length buf → out ≡ laidAt at eight buf → Put at (packedOf d) buf size out
+pub digits-put : (d : Digits) (at n size : ℕ) (eight buf out : List ℕ) → eight ≡ eightOf d → n ≡ min (d .len) 15 → size ≡ packedLength n
+    → at + 8 ≤ length buf → out ≡ laidAt at eight buf → LaidCounted at (packedOf d) buf size out
 unfolding packedOf
 digits-put d at n size eight buf out e few long room h =
     record {
@@ -93,7 +104,8 @@ digits-put d at n size eight buf out e few long room h =
     }
 
 -- a few octets, with what stands behind them
-pub short-put : (at n : ℕ) (s t d out : List ℕ) → t ≡ take n s → n ≤ length s → n ≤ 16 → at + length t + 16 ≤ length d → out ≡ laidAt at (partOf s 0 16) d → Put at t d n out
+pub short-put : (at n : ℕ) (s t d out : List ℕ) → t ≡ take n s → n ≤ length s → n ≤ 16 → at + length t + 16 ≤ length d
+    → out ≡ laidAt at (partOf s 0 16) d → LaidCounted at t d n out
 short-put at n s t d out same within few room e =
     record {
       says = sym (ap length same ∙ length-take-le n s within);
@@ -144,7 +156,8 @@ module _ (area : List ℕ) (i : Item) where
     pub rest-holds : Within area i → p .len ≤ length (restOf area p)
     rest-holds w = omega (arith, w .inside p e, length-take (length area - p .start) (drop (p .start) area), length-drop (p .start) area)
 
-    pub rest-room : (at room : ℕ) → at + length (storedIn area i) + 16 ≤ room → at + length (storedPart (i .form) (take (p .len) (restOf area p))) + 16 ≤ room
+    pub rest-room : (at room : ℕ) → at + length (storedIn area i) + 16 ≤ room
+        → at + length (storedPart (i .form) (take (p .len) (restOf area p))) + 16 ≤ room
     rest-room at room h = omega (arith, ap length rest-stored)
 
   item-length : length (itemIn area i) ≡ 4 + length (storedIn area i)
@@ -155,7 +168,8 @@ module _ (area : List ℕ) (i : Item) where
   stored-room at room h = omega (arith, item-length)
 
   -- an item is the names that stand there, form and count, and what it stores
-  module _ (at size : ℕ) (held first : List ℕ) (room : at + length (itemIn area i) + 16 ≤ length held) (w : Put (at + 4) (storedIn area i) held size first) where
+  module _ (at size : ℕ) (held first : List ℕ) (room : at + length (itemIn area i) + 16 ≤ length held)
+      (w : LaidCounted (at + 4) (storedIn area i) held size first) where
     -- form and count have room
     pub form-room : at + 4 ≤ length first
     form-room = omega (arith, w .holds .kept)
@@ -166,7 +180,8 @@ module _ (area : List ℕ) (i : Item) where
         ap (λ (k : ℕ). set (set first (at + 2) (i .form)) k (i .count)) there
         ∙ each-laid (at + 2) (i .form ∷ i .count ∷ []) first (omega (arith, form-room)) 1 refl
 
-    pub item-put : (d : List ℕ) → Begun at (namesOf (i .number)) d held → Put at (itemIn area i) d (4 + size) (set (set first (at + 2) (i .form)) (at + 3) (i .count))
+    pub item-put : (d : List ℕ) → Begun at (namesOf (i .number)) d held
+        → LaidCounted at (itemIn area i) d (4 + size) (set (set first (at + 2) (i .form)) (at + 3) (i .count))
     unfolding itemIn namesOf
     item-put d names =
         let behind : at + 2 + 2 ≡ at + 4 = omega arith in
@@ -190,6 +205,7 @@ unfolding namesOf
 gpp-names n at d h room = laid-as at (26 ∷ (n - 256) ∷ []) _ d _ (rw (le-ltb n 256 h)) (each-laid at (26 ∷ (n - 256) ∷ []) d room 1 refl)
 
 -- the head of a sheet, with the number of items in two octets
-pub head-laid : (kind flags count : ℕ) (many : List ℕ) → many ≡ octetsOf 2 count → 71 ∷ 73 ∷ 82 ∷ 0 ∷ 1 ∷ kind ∷ flags ∷ getD many 0 0 ∷ getD many 1 0 ∷ [] ≡ sheetHead kind flags count
+pub head-laid : (kind flags count : ℕ) (many : List ℕ) → many ≡ octetsOf 2 count
+    → 71 ∷ 73 ∷ 82 ∷ 0 ∷ 1 ∷ kind ∷ flags ∷ getD many 0 0 ∷ getD many 1 0 ∷ [] ≡ sheetHead kind flags count
 unfolding sheetHead octetsOf
 head-laid kind flags count many e = rw e

@@ -1,4 +1,3 @@
 pub mod Laying
 pub mod Passes
 pub mod Whole
-pub mod Exactly

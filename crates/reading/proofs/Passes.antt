@@ -28,20 +28,20 @@ use Rattle.shape.proofs.Items.{item-there}
 use Rattle.shape.proofs.Stored.{item-as-meant}
 use Rattle.reading.proofs.Laying.{cutOf, cut-part}
 use Rattle.reading.specs.declared.Tally.the-variants.{Whole, Broken}
-use Rattle.reading.specs.Items.{namesOf, itemIn, Within, Put, itemsIn, PassSays}
+use Rattle.reading.specs.Items.{namesOf, itemIn, Within, LaidCounted, areaItems, PassSays}
 
 -- The loop stands at a place and has gone over the attributes before it, whose items are so many octets and stand at the start of the
 -- buffer, which was d.
 pub record Passing (l d out : List ℕ) (place count written : ℕ) : Type 0 where
   pub passed : framing.Passed l count place
   pub gone : List ℕ
-  pub whole : itemsIn l ≡ gone ++ itemsOf (attributes (walkAt l place))
+  pub whole : areaItems l ≡ gone ++ itemsOf (attributes (walkAt l place))
   pub long : length gone ≡ written
   pub few : written ≤ 2 * place
   pub held : Begun 0 gone d out
 
 pub passing-none : (l d : List ℕ) → Passing l d d 0 0 0
-unfolding itemsIn walk
+unfolding areaItems walk
 passing-none l d =
     record {
       passed = framing.passed-none l;
@@ -62,7 +62,9 @@ plain-part : (f : ℕ) (v s : List ℕ) (p q : Part) → valueBy f v s p ≡ Pla
 unfolding valueBy
 plain-part f v s p q e = go (eqb f 2) (eqb f 3) (eqb f 4) (eqb f 7) e
   where
-    go : (a b c d : Bool) → cond a (Number (numberOf v)) (cond b (Address (numberOf v)) (cond c Digits (cond d (Number (numberOf s)) (Plain p)))) ≡ Plain q → p ≡ q
+    go : (a b c d : Bool)
+        → cond a (Number (numberOf v)) (cond b (Address (numberOf v)) (cond c Digits (cond d (Number (numberOf s)) (Plain p)))) ≡ Plain q
+        → p ≡ q
     go true b c d h = absurd (let z : _≡_ {A = ℕ} 0 1 = cc in omega arith)
     go false true c d h = absurd (let z : _≡_ {A = ℕ} 0 1 = cc in omega arith)
     go false false true d h = absurd (let z : _≡_ {A = ℕ} 0 1 = cc in omega arith)
@@ -94,7 +96,8 @@ module _ (l : List ℕ) (place n : ℕ) (p : Part) (behind : ℕ) (g : Stands l 
   number-low = g .carried o .low
 
   -- and its names have room
-  pub names-fit : (d out : List ℕ) (count written : ℕ) → Passing l d out place count written → 2 * length l + 16 ≤ length d → written + 2 ≤ length out
+  pub names-fit : (d out : List ℕ) (count written : ℕ) → Passing l d out place count written → 2 * length l + 16 ≤ length d
+      → written + 2 ≤ length out
   names-fit d out count written k room = omega (arith, k .few, k .held .kept, g .onwards, g .inside)
 
   -- the item of the attribute
@@ -136,8 +139,9 @@ module _ (l : List ℕ) (place n : ℕ) (p : Part) (behind : ℕ) (g : Stands l 
         names-begun = begun-as written (namesOf n) _ out named (ap (λ (j : Item). namesOf (j .number)) item-made) (begun-laid written (namesOf n) out named (names-fit d out count written k room) first)
 
         -- it was put there
-        module _ (size : ℕ) (after : List ℕ) (says : (b : List ℕ) → Begun written (namesOf (i .number)) b named → Put written (itemIn l i) b size after) where
-          put : Put written (itemIn l i) out size after
+        module _ (size : ℕ) (after : List ℕ)
+            (says : (b : List ℕ) → Begun written (namesOf (i .number)) b named → LaidCounted written (itemIn l i) b size after) where
+          put : LaidCounted written (itemIn l i) out size after
           put = says out names-begun
 
           -- the sum does not wrap
@@ -164,7 +168,7 @@ module _ (l d out : List ℕ) (place count written : ℕ) (k : Passing l d out p
   pub passing-done : walkAt l place ≡ end → PassSays l (Whole count written) out
   unfolding PassSays itemsOf attributes fault
   passing-done h =
-      let all : itemsIn l ≡ k .gone = k .whole ∙ ap (λ (w : Walk). k .gone ++ itemsOf (attributes w)) h ∙ append-nil (k .gone) in
+      let all : areaItems l ≡ k .gone = k .whole ∙ ap (λ (w : Walk). k .gone ++ itemsOf (attributes w)) h ∙ append-nil (k .gone) in
       record {
         sound = k .passed .same-fault ∙ ap fault h;
         counts = omega (arith, k .passed .counted, ap (λ (w : Walk). length (attributes w)) h);

@@ -9,7 +9,8 @@ use Rattle.meaning.specs.Refusals.{none, fault}
 use Rattle.meaning.specs.Sheet.{typeOf, subOf, mark, itemsOf}
 use Rattle.octets.specs.Parts.{Begun}
 use Rattle.area.specs.declared.Part.{Part}
-use Rattle.area.specs.Answers.{inBook}
+use Rattle.area.specs.declared.Arrival.the-variants.{Fit}
+use Rattle.area.specs.Answers.{inBook, arrivalOf}
 use Rattle.shape.specs.declared.Item.{Item}
 use Rattle.shape.specs.declared.Value.the-variants.{Plain}
 use Rattle.shape.specs.Items.{storedIn}
@@ -30,7 +31,7 @@ pub record Within (area : List ℕ) (i : Item) : Type 0 where
   pub released : (p : Part) → i .value ≡ Plain p → i .form ≡ 6 → 3 ≤ p .len
 
 -- what a writer of the octets s at a place of the buffer d says, how many they are; and what the buffer holds then
-pub record Put (at : ℕ) (s d : List ℕ) (said : ℕ) (held : List ℕ) : Type 0 where
+pub record LaidCounted (at : ℕ) (s d : List ℕ) (said : ℕ) (held : List ℕ) : Type 0 where
   pub says : said ≡ length s
   pub holds : Begun at s d held
 
@@ -39,19 +40,25 @@ unfoldable pub sheetHead : (kind flags count : ℕ) → List ℕ
 sheetHead kind flags count = mark ++ kind ∷ flags ∷ octetsOf 2 count
 
 -- the items of an area, one behind the other
-unfoldable pub itemsIn : (area : List ℕ) → List ℕ
-itemsIn area = itemsOf (attributes (walk area))
+unfoldable pub areaItems : (area : List ℕ) → List ℕ
+areaItems area = itemsOf (attributes (walk area))
 
 -- what a pass over a well framed area says: how many items it has and how many octets these are; and what the buffer starts with
 -- then, the items
-pub record Passed (area : List ℕ) (count written : ℕ) (held : List ℕ) : Type 0 where
+pub record ItemsLaid (area : List ℕ) (count written : ℕ) (held : List ℕ) : Type 0 where
   pub sound : fault (walk area) ≡ none
   pub counts : count ≡ length (attributes (walk area))
-  pub long : written ≡ length (itemsIn area)
+  pub long : written ≡ length (areaItems area)
   pub few : written ≤ 2 * length area
-  pub holds : take written held ≡ itemsIn area
+  pub holds : take written held ≡ areaItems area
 
 -- the same of any area
 unfoldable pub PassSays : (area : List ℕ) → Tally → (held : List ℕ) → Type 0
-PassSays area (Whole count written) held = Passed area count written held
+PassSays area (Whole count written) held = ItemsLaid area count written held
 PassSays area (Broken r) held = fault (walk area) ≡ inBook r
+
+-- a pass over an area that comes with a fit kind, flags and length, and a buffer with room for the items of any so long
+pub record Concluding (kind flags : ℕ) (area : List ℕ) (tally : Tally) (made : List ℕ) : Type 0 where
+  pub fit : arrivalOf kind flags (length area) ≡ Fit
+  pub says : PassSays area tally made
+  pub room : 2 * length area ≤ length made

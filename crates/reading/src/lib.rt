@@ -7,18 +7,27 @@ use shape::Item;
 use shape::Value;
 ghost use mathlib.Core.Path.{_≡_};
 ghost use mathlib.Core.Bool.{cond};
-ghost use mathlib.Core.List.{List, [], _∷_};
+ghost use mathlib.Core.List.{List, [], _∷_, _++_};
 ghost use Prim.Native.Nat.{ℕ, _+_, _-_, _*_, _%_, _≤_, _<_};
 ghost use lib.Dec.{eqb};
 ghost use lib.ListN.{length, take, drop, getD};
 ghost use Rattle.meaning.specs.Octets.{octetsOf, pack, packedLength, digitValue};
 ghost use Rattle.octets.specs.Parts.{laidAt, Begun};
+ghost use Rattle.octets.specs.Handing.{Handed};
 ghost use Rattle.octets.specs.DigitStrings.{halves};
 ghost use Rattle.area.specs.Answers.{arrivalOf};
 ghost use Rattle.area.specs.declared.Arrival.the-variants.{Fit};
 ghost use Rattle.shape.specs.Items.{storedPart, storedIn};
-ghost use Rattle.reading.specs.Items.{namesOf, itemIn, Within, Put, sheetHead, PassSays};
-ghost use Rattle.reading.specs.Answers.{HandedOver, Read};
+ghost use Rattle.reading.specs.Items.{namesOf, itemIn, Within, LaidCounted, sheetHead, PassSays, Concluding};
+ghost use Rattle.reading.specs.Answers.{readingOf, Read};
+
+// "A sheet is never longer than 9 + 2 x area length": room for the items of any area, of up to 4,076 octets, and for sixteen octets more.
+const ROOM: usize = 8168;
+
+// Most areas are short, and a short buffer takes less time to clear: areas up to so many octets have one, with the same room.
+const SHORT_AREA: usize = 384;
+
+const SHORT_ROOM: usize = 784;
 
 // What reading answers: the octets of the sheet that stands at the buffer's start, or a refusal.
 pub enum Reading {
@@ -70,7 +79,7 @@ fn put_eight(buf: &mut [u8], at: usize, eight: [u8; 8])
 // Lays a number: one octet in form 7, else four. The answer of this writer and of those below is how many octets they lay.
 fn put_number(buf: &mut [u8], at: usize, form: u8, n: u32) -> usize
     requires { ⌜ at + 4 ≤ length (now buf) ⌝ }
-    ensures { λ r. ⌜ Put at (cond (eqb form 7) ((n % 256) ∷ []) (octetsOf 4 n)) (now (buf .entry)) r (now (buf .exit)) ⌝ }
+    ensures { λ r. ⌜ LaidCounted at (cond (eqb form 7) ((n % 256) ∷ []) (octetsOf 4 n)) (now (buf .entry)) r (now (buf .exit)) ⌝ }
 {
     if form == 7 {
         buf[at] = (n % 256) as u8;
@@ -83,7 +92,9 @@ fn put_number(buf: &mut [u8], at: usize, form: u8, n: u32) -> usize
 // Lays a QoS profile: the release octet, then its hexadecimal digits two to an octet.
 fn put_qos(buf: &mut [u8], at: usize, text: &[u8]) -> usize
     requires { ⌜ (3 ≤ length (now text)) × (at + (1 + packedLength (length (now text) - 3)) ≤ length (now buf)) ⌝ }
-    ensures { λ r. ⌜ Put at (((digitValue (getD (now (text .entry)) 0 0) * 10 + digitValue (getD (now (text .entry)) 1 0)) % 256) ∷ pack (halves (drop 3 (now (text .entry))))) (now (buf .entry)) r (now (buf .exit)) ⌝ }
+    ensures { λ r. ⌜ LaidCounted at
+        (((digitValue (getD (now (text .entry)) 0 0) * 10 + digitValue (getD (now (text .entry)) 1 0)) % 256) ∷ pack
+        (halves (drop 3 (now (text .entry))))) (now (buf .entry)) r (now (buf .exit)) ⌝ }
 {
     let release = [release_of(text)];
     octets::copy_at(buf, at, &release);
@@ -94,8 +105,9 @@ fn put_qos(buf: &mut [u8], at: usize, text: &[u8]) -> usize
 // Lays plain octets, the first `len` of `rest`: as they stand, in form 5 as packed text, in form 6 as a QoS profile. With sixteen octets
 // of room behind them, which may change: a few go with what stands behind them.
 fn put_part(buf: &mut [u8], at: usize, form: u8, rest: &[u8], len: usize) -> usize
-    requires { ⌜ (form ≡ 6 → 3 ≤ len) × ((len ≤ length (now rest)) × (at + length (storedPart form (take len (now rest))) + 16 ≤ length (now buf))) ⌝ }
-    ensures { λ r. ⌜ Put at (storedPart form (take len (now (rest .entry)))) (now (buf .entry)) r (now (buf .exit)) ⌝ }
+    requires { ⌜ (form ≡ 6 → 3 ≤ len) ×
+        ((len ≤ length (now rest)) × (at + length (storedPart form (take len (now rest))) + 16 ≤ length (now buf))) ⌝ }
+    ensures { λ r. ⌜ LaidCounted at (storedPart form (take len (now (rest .entry)))) (now (buf .entry)) r (now (buf .exit)) ⌝ }
 {
     if form == 5 {
         octets::pack_at(buf, at, &rest[..len]);
@@ -115,7 +127,7 @@ fn put_part(buf: &mut [u8], at: usize, form: u8, rest: &[u8], len: usize) -> usi
 // Lays what an item stores, with sixteen octets of room behind it, which may change.
 fn put_stored(buf: &mut [u8], at: usize, area: &[u8], item: Item) -> usize
     requires { ⌜ Within (now area) item × (at + length (storedIn (now area) item) + 16 ≤ length (now buf)) ⌝ }
-    ensures { λ r. ⌜ Put at (storedIn (now (area .entry)) item) (now (buf .entry)) r (now (buf .exit)) ⌝ }
+    ensures { λ r. ⌜ LaidCounted at (storedIn (now (area .entry)) item) (now (buf .entry)) r (now (buf .exit)) ⌝ }
 {
     let value = item.value;
     let form = item.form;
@@ -157,7 +169,8 @@ fn put_names(buf: &mut [u8], at: usize, number: u16)
 // behind it, and its form and count before that.
 fn put_item(buf: &mut [u8], at: usize, area: &[u8], item: Item) -> usize
     requires { ⌜ (item .count < 256) × Within (now area) item × (at + length (itemIn (now area) item) + 16 ≤ length (now buf)) ⌝ }
-    ensures { λ r. ⌜ ((d : List ℕ) → Begun at (namesOf (item .number)) d (now (buf .entry)) → Put at (itemIn (now (area .entry)) item) d r (now (buf .exit))) ⌝ }
+    ensures { λ r. ⌜ ((d : List ℕ) → Begun at (namesOf (item .number)) d (now (buf .entry)) → LaidCounted at
+        (itemIn (now (area .entry)) item) d r (now (buf .exit))) ⌝ }
 {
     let size = put_stored(buf, at + 4, area, item);
     buf[at + 2] = item.form;
@@ -221,7 +234,7 @@ fn sheet_head(kind: u32, flags: u32, count: usize) -> [u8; 9]
 // Lays a sheet, its head and its items, at the buffer's start; or refusal 9 where it has not the room.
 fn hand_over(kind: u32, flags: u32, count: usize, items: &[u8], sheet: &mut [u8]) -> Reading
     requires { ⌜ (kind < 256) × (flags < 256) × (count < 65536) × (length (now items) ≤ 8152) ⌝ }
-    ensures { λ r. ⌜ HandedOver (sheetHead kind flags count) (now (items .entry)) (now (sheet .entry)) r (now (sheet .exit)) ⌝ }
+    ensures { λ r. ⌜ Handed readingOf 9 (sheetHead kind flags count ++ now (items .entry)) (now (sheet .entry)) r (now (sheet .exit)) ⌝ }
 {
     let needed = 9 + items.len();
     if sheet.len() < needed {
@@ -236,35 +249,25 @@ fn hand_over(kind: u32, flags: u32, count: usize, items: &[u8], sheet: &mut [u8]
     Reading::Sheet(needed)
 }
 
-// The sheet of an area that comes with a fit kind, flags and length, or the first of refusals 4 to 9. Its items are laid into a buffer and
-// copied from there, so that nothing is written before every refusal is ruled out. This one has room for the items of any area.
-fn long(area: &[u8], kind: u32, flags: u32, sheet: &mut [u8]) -> Reading
-    requires { ⌜ arrivalOf kind flags (length (now area)) ≡ Fit ⌝ }
+// What an area that comes with a fit kind, flags and length is answered, by what the pass over it gave: the first of refusals 4 to 8, or the
+// sheet, whose items are copied from the buffer in which they were laid, so that nothing is written before every refusal is ruled out.
+fn conclude(
+    area: &[u8],
+    kind: u32,
+    flags: u32,
+    tally: Tally,
+    made: &[u8],
+    sheet: &mut [u8],
+) -> Reading
+    requires { ⌜ Concluding kind flags (now area) tally (now made) ⌝ }
     ensures { λ r. ⌜ Read kind flags (now (area .entry)) (now (sheet .entry)) r (now (sheet .exit)) ⌝ }
 {
-    let mut buf = [0u8; 8168];
-    match put_items(area, &mut buf) {
+    match tally {
         Tally::Broken(refusal) => {
             return Reading::Refused(refusal);
         }
         Tally::Whole { count, written } => {
-            return hand_over(kind, flags, count, &buf[..written], sheet);
-        }
-    }
-}
-
-// The same of an area of up to 384 octets: a short buffer takes less time to clear.
-fn short(area: &[u8], kind: u32, flags: u32, sheet: &mut [u8]) -> Reading
-    requires { ⌜ (arrivalOf kind flags (length (now area)) ≡ Fit) × (length (now area) ≤ 384) ⌝ }
-    ensures { λ r. ⌜ Read kind flags (now (area .entry)) (now (sheet .entry)) r (now (sheet .exit)) ⌝ }
-{
-    let mut buf = [0u8; 784];
-    match put_items(area, &mut buf) {
-        Tally::Broken(refusal) => {
-            return Reading::Refused(refusal);
-        }
-        Tally::Whole { count, written } => {
-            return hand_over(kind, flags, count, &buf[..written], sheet);
+            return hand_over(kind, flags, count, &made[..written], sheet);
         }
     }
 }
@@ -278,10 +281,14 @@ pub fn read(area: &[u8], kind: u32, flags: u32, sheet: &mut [u8]) -> Reading
             return Reading::Refused(refusal);
         }
         Arrival::Fit => {
-            if area.len() <= 384 {
-                return short(area, kind, flags, sheet);
+            if area.len() <= SHORT_AREA {
+                let mut buf = [0u8; SHORT_ROOM];
+                let tally = put_items(area, &mut buf);
+                return conclude(area, kind, flags, tally, &buf, sheet);
             }
-            return long(area, kind, flags, sheet);
+            let mut buf = [0u8; ROOM];
+            let tally = put_items(area, &mut buf);
+            return conclude(area, kind, flags, tally, &buf, sheet);
         }
     }
 }

@@ -49,7 +49,8 @@ below-at p (suc b) n t h = go (ltb n b) refl (below-at p b n (parts (p b) (below
     go false e lower = subst (λ (k : ℕ). T (p k)) (omega (arith, h, ltb-false n b e)) (parts (p b) (below p b) t .0)
 
 -- What is 0 behind the arms of a match: what is so below a bound, by computing, and from it on.
-none-other : (f : ℕ → ℕ) (arms : List (List ℕ)) (bound : ℕ) → T (below (λ n. isIn n (named arms) || eqb (f n) 0) bound) → ((n : ℕ) → bound ≤ n → f n ≡ 0) → (n : ℕ) → PastArms (Unit {0}) n arms → f n ≡ 0
+none-other : (f : ℕ → ℕ) (arms : List (List ℕ)) (bound : ℕ) → T (below (λ n. isIn n (named arms) || eqb (f n) 0) bound)
+    → ((n : ℕ) → bound ≤ n → f n ≡ 0) → (n : ℕ) → PastArms (Unit {0}) n arms → f n ≡ 0
 none-other f arms bound t above n p = go (ltb n bound) refl
   where
     go : (less : Bool) → ltb n bound ≡ less → f n ≡ 0

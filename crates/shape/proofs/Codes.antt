@@ -74,7 +74,8 @@ abbrev pub each : (Shape → Bool) → List Shape → Bool
 each p [] = true
 each p (s ∷ l) = p s && each p l
 
-among-passes : (p : ℕ → Shape → Bool) (l : List Shape) (code : ℕ) → T (p code free) → T (each (λ s. p (codeOf s) s) l) → T (p code (shapeAmong l code))
+among-passes : (p : ℕ → Shape → Bool) (l : List Shape) (code : ℕ) → T (p code free) → T (each (λ s. p (codeOf s) s) l)
+    → T (p code (shapeAmong l code))
 among-passes p [] code f t = f
 among-passes p (s ∷ l) code f t =
     let h = parts (p (codeOf s) s) (each (λ (x : Shape). p (codeOf x) x) l) t in

@@ -42,7 +42,8 @@ raw-value false v s p = refl
 -- v are the octets of the part p
 module _ (n : ℕ) (v : List ℕ) (p : Part) where
   -- an item without digits, made of its form, its count and its value
-  undigited-is : (f c : ℕ) (x : Value) → form n v ≡ f → eqb f 4 ≡ false → length (stored n v) ≡ c → x ≡ valueBy f v (stored n v) p → undigited n f c x ≡ itemFor n v p
+  undigited-is : (f c : ℕ) (x : Value) → form n v ≡ f → eqb f 4 ≡ false → length (stored n v) ≡ c → x ≡ valueBy f v (stored n v) p
+      → undigited n f c x ≡ itemFor n v p
   unfolding undigited itemFor count digitsBy
   undigited-is f c x fs e cs xs = rw (fs, e, cs, xs)
 
@@ -60,14 +61,16 @@ module _ (n : ℕ) (v : List ℕ) (p : Part) where
 
   -- ---- Numbers and addresses
 
-  pub item-number : shapeOf n ≡ number → length v ≡ 4 → (x : ℕ) → x ≡ numberOf (partOf v 0 4) → undigited n 2 4 (is.Number x) ≡ itemFor n v p
+  pub item-number : shapeOf n ≡ number → length v ≡ 4 → (x : ℕ) → x ≡ numberOf (partOf v 0 4)
+      → undigited n 2 4 (is.Number x) ≡ itemFor n v p
   unfolding valueBy formOf meets
   item-number e l x xs =
       let f : form n v ≡ 2 = form-own n v number e (omega arith) (eq-eqb (length v) 4 l) in
       undigited-is 2 4 (is.Number x) f refl (ap length (formed-as n v 2 f .kept) ∙ l)
       (ap is.Number (xs ∙ ap numberOf (part-rest v 0 4 (omega arith))))
 
-  pub item-address : shapeOf n ≡ address → length v ≡ 4 → (x : ℕ) → x ≡ numberOf (partOf v 0 4) → undigited n 3 4 (is.Address x) ≡ itemFor n v p
+  pub item-address : shapeOf n ≡ address → length v ≡ 4 → (x : ℕ) → x ≡ numberOf (partOf v 0 4)
+      → undigited n 3 4 (is.Address x) ≡ itemFor n v p
   unfolding valueBy formOf meets
   item-address e l x xs =
       let f : form n v ≡ 3 = form-own n v address e (omega arith) (eq-eqb (length v) 4 l) in
@@ -76,7 +79,8 @@ module _ (n : ℕ) (v : List ℕ) (p : Part) where
 
   -- ---- Digits
 
-  module _ (a b : ℕ) (shape-is : shapeOf n ≡ digits a b) (some : a ≤ length v) (few : length v ≤ b) (got : Digits) (got-is : got ≡ gotOf v) where
+  module _ (a b : ℕ) (shape-is : shapeOf n ≡ digits a b) (some : a ≤ length v) (few : length v ≤ b) (got : Digits)
+      (got-is : got ≡ gotOf v) where
     -- so many octets are 1 to 15
     low-high : (1 ≤ length v) × (length v ≤ 15)
     low-high =
@@ -100,7 +104,8 @@ module _ (n : ℕ) (v : List ℕ) (p : Part) where
     pub digits-missed : got .len ≡ 0 → rawItem n (length v) p ≡ itemFor n v p
     digits-missed z = missed (digits a b) shape-is (sym (digits-all v a b some few) ∙ none-misses _ refl z)
 
-    pub item-digits : (got .len ≡ 0 → ⊥) → _≡_ {A = Item} (record { number = n; form = 4; count = length v; value = is.Digits; digits = got }) (itemFor n v p)
+    pub item-digits : (got .len ≡ 0 → ⊥)
+        → _≡_ {A = Item} (record { number = n; form = 4; count = length v; value = is.Digits; digits = got }) (itemFor n v p)
     unfolding itemFor count valueBy digitsBy formOf
     item-digits z =
         let f : form n v ≡ 4 = form-own n v (digits a b) shape-is (omega arith) (sym (digits-all v a b some few) ∙ some-meet _ refl z) in
@@ -147,7 +152,8 @@ module _ (n : ℕ) (v : List ℕ) (p : Part) where
       pub octet-there : 0 < length v
       octet-there = omega (arith, told .long)
 
-      pub item-octet : (x : ℕ) → x ≡ cond (eqb code 71) (getD v 0 0) (digitValue (getD v 0 0) % 16) → undigited n 7 1 (is.Number x) ≡ itemFor n v p
+      pub item-octet : (x : ℕ) → x ≡ cond (eqb code 71) (getD v 0 0) (digitValue (getD v 0 0) % 16)
+          → undigited n 7 1 (is.Number x) ≡ itemFor n v p
       unfolding valueBy numberOf
       item-octet x xs =
           undigited-is 7 1 (is.Number x) single refl (ap length (told .octet)) (rw (told .octet) (ap is.Number (omega (arith, xs))))

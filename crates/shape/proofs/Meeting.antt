@@ -66,7 +66,8 @@ release-dash a b n (x ∷ []) l h = absurd (omega arith)
 release-dash a b n (x ∷ y ∷ []) l h = absurd (omega arith)
 release-dash a b n (x ∷ y ∷ z ∷ v) l h = simp (ne-eqb z 45 h, and-false)
 
-pub release-hex : (a b n : ℕ) (v : List ℕ) → length v ≡ 3 + n → getD v 0 0 ≡ a → getD v 1 0 ≡ b → getD v 2 0 ≡ 45 → all isHex (partOf v 3 n) ≡ release a b n v
+pub release-hex : (a b n : ℕ) (v : List ℕ) → length v ≡ 3 + n → getD v 0 0 ≡ a → getD v 1 0 ≡ b → getD v 2 0 ≡ 45
+    → all isHex (partOf v 3 n) ≡ release a b n v
 release-hex a b n [] l p q r = absurd (omega arith)
 release-hex a b n (x ∷ []) l p q r = absurd (omega arith)
 release-hex a b n (x ∷ y ∷ []) l p q r = absurd (omega arith)

@@ -71,7 +71,8 @@ form-stored area v s p c e o os =
     (λ w. octet-stored v s c os w)
 
 -- What an item stores of its area is what is meant to be stored of the value.
-pub stored-as-meant : (area : List ℕ) (number : ℕ) (value : Part) → Octets area → storedIn area (itemAt area number value) ≡ stored number (partOf area (value .start) (value .len))
+pub stored-as-meant : (area : List ℕ) (number : ℕ) (value : Part) → Octets area
+    → storedIn area (itemAt area number value) ≡ stored number (partOf area (value .start) (value .len))
 unfolding storedIn itemAt itemFor
 stored-as-meant area n p o =
     let v : List ℕ = partOf area (p .start) (p .len) in
@@ -79,7 +80,8 @@ stored-as-meant area n p o =
     form-stored area v (stored n v) p (codeOf (shapeOf n)) refl ov (stored-octets n v ov) (form n v) (form-range n v) (formed n v)
 
 -- The octets of an item are those of the sheet's item of the value.
-pub item-as-meant : (area : List ℕ) (number : ℕ) (value : Part) → Octets area → typeOf (itemAt area number value .number) ∷ subOf (itemAt area number value .number) ∷ itemAt area number value .form ∷ itemAt area number value .count ∷ storedIn area (itemAt area number value) ≡ item number (partOf area (value .start) (value .len))
+pub item-as-meant : (area : List ℕ) (number : ℕ) (value : Part) → Octets area
+    → typeOf (itemAt area number value .number) ∷ subOf (itemAt area number value .number) ∷ itemAt area number value .form ∷ itemAt area number value .count ∷ storedIn area (itemAt area number value) ≡ item number (partOf area (value .start) (value .len))
 unfolding item itemAt itemFor
 item-as-meant area n p o =
     let v : List ℕ = partOf area (p .start) (p .len) in

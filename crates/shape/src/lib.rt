@@ -13,6 +13,62 @@ ghost use Rattle.meaning.specs.Sheet.{formOf, storedLength};
 ghost use Rattle.shape.specs.Codes.{codeOf, shapeBy};
 ghost use Rattle.shape.specs.Items.{undigited, rawItem, itemFor};
 
+// The 3GPP numbers that have a shape, as carried numbers: 256 more than the sub-attribute's.
+const IMSI: u16 = 257;
+
+const CHARGING_ID: u16 = 258;
+
+const PDP_TYPE: u16 = 259;
+
+const CG_ADDRESS: u16 = 260;
+
+const QOS_PROFILE: u16 = 261;
+
+const SGSN_ADDRESS: u16 = 262;
+
+const GGSN_ADDRESS: u16 = 263;
+
+const IMSI_MCC_MNC: u16 = 264;
+
+const GGSN_MCC_MNC: u16 = 265;
+
+const NSAPI: u16 = 266;
+
+const STOP_INDICATOR: u16 = 267;
+
+const SELECTION_MODE: u16 = 268;
+
+const SGSN_MCC_MNC: u16 = 274;
+
+// The codes of the shapes. The tens of a code are the form of the shape, 0 where it has none of its own, and the ones tell the shapes of
+// one form apart: a least length, 17 octets or blocks of 16; a number, an address, 1 to 15 digits, 5 or 6 digits, hexadecimal text, a QoS
+// profile, one hexadecimal digit, any octet, one decimal digit. 0 is no shape.
+pub const AT_LEAST_ONE: u8 = 1;
+
+pub const AT_LEAST_FIVE: u8 = 2;
+
+pub const SEVENTEEN: u8 = 3;
+
+pub const BLOCKS: u8 = 4;
+
+pub const NUMBER: u8 = 20;
+
+pub const ADDRESS: u8 = 30;
+
+pub const LONG_DIGITS: u8 = 40;
+
+pub const SHORT_DIGITS: u8 = 41;
+
+pub const HEXADECIMAL: u8 = 50;
+
+pub const QOS: u8 = 60;
+
+pub const HEX_DIGIT: u8 = 70;
+
+pub const ANY_OCTET: u8 = 71;
+
+pub const DECIMAL_DIGIT: u8 = 72;
+
 // "An item's value is either a number, an address, digits or plain octets": plain octets as a part of the area; the digits stand
 // beside it.
 pub enum Value {
@@ -37,32 +93,32 @@ fn plain_code(t: u16) -> u8
     ensures { λ r. ⌜ r ≡ codeOf (plainShape t) ⌝ }
 {
     match t {
-        1 => 1,
-        2 => 4,
-        3 => 3,
-        4 => 30,
-        6 => 20,
-        7 => 20,
-        8 => 30,
-        9 => 30,
-        18 => 1,
-        24 => 1,
-        25 => 1,
-        30 => 1,
-        31 => 40,
-        32 => 1,
-        40 => 20,
-        41 => 20,
-        42 => 20,
-        43 => 20,
-        44 => 50,
-        45 => 20,
-        46 => 20,
-        47 => 20,
-        48 => 20,
-        49 => 20,
-        60 => 2,
-        61 => 20,
+        1 => AT_LEAST_ONE,
+        2 => BLOCKS,
+        3 => SEVENTEEN,
+        4 => ADDRESS,
+        6 => NUMBER,
+        7 => NUMBER,
+        8 => ADDRESS,
+        9 => ADDRESS,
+        18 => AT_LEAST_ONE,
+        24 => AT_LEAST_ONE,
+        25 => AT_LEAST_ONE,
+        30 => AT_LEAST_ONE,
+        31 => LONG_DIGITS,
+        32 => AT_LEAST_ONE,
+        40 => NUMBER,
+        41 => NUMBER,
+        42 => NUMBER,
+        43 => NUMBER,
+        44 => HEXADECIMAL,
+        45 => NUMBER,
+        46 => NUMBER,
+        47 => NUMBER,
+        48 => NUMBER,
+        49 => NUMBER,
+        60 => AT_LEAST_FIVE,
+        61 => NUMBER,
         _ => 0,
     }
 }
@@ -72,29 +128,24 @@ fn gpp_code(s: u16) -> u8
     ensures { λ r. ⌜ r ≡ codeOf (gppShape s) ⌝ }
 {
     match s {
-        1 => 40,
-        2 => 20,
-        3 => 20,
-        4 => 30,
-        5 => 60,
-        6 => 30,
-        7 => 30,
-        8 => 41,
-        9 => 41,
-        10 => 70,
-        11 => 71,
-        12 => 72,
-        18 => 41,
+        1 => LONG_DIGITS,
+        2 => NUMBER,
+        3 => NUMBER,
+        4 => ADDRESS,
+        5 => QOS,
+        6 => ADDRESS,
+        7 => ADDRESS,
+        8 => SHORT_DIGITS,
+        9 => SHORT_DIGITS,
+        10 => HEX_DIGIT,
+        11 => ANY_OCTET,
+        12 => DECIMAL_DIGIT,
+        18 => SHORT_DIGITS,
         _ => 0,
     }
 }
 
-// The code of the shape of a carried number, whatever the number. The tens of a code are the form of the shape, 0 where it has none of
-// its own, and the ones tell the shapes of one form apart:
-//
-//     0 no shape   1 at least 1 octet   2 at least 5   3 exactly 17   4 blocks of 16
-//     20 number   30 address   40 digits, 1 to 15   41 digits, 5 or 6   50 hexadecimal   60 QoS profile
-//     70 one hexadecimal digit   71 any octet   72 one decimal digit
+// The code of the shape of a carried number, whatever the number.
 pub fn code_of(number: u16) -> u8
     ensures { λ r. ⌜ r ≡ codeOf (shapeOf number) ⌝ }
 {
@@ -170,19 +221,19 @@ pub fn meets_code(code: u8, value: &[u8]) -> bool
     ensures { λ r. ⌜ r ≡ meant.meets (shapeBy code) (now (value .entry)) ⌝ }
 {
     match code {
-        1 => 1 <= value.len(),
-        2 => 5 <= value.len(),
-        3 => value.len() == 17,
-        4 => meets_blocks(value),
-        20 => value.len() == 4,
-        30 => value.len() == 4,
-        40 => meets_digits(value, 1, 15),
-        41 => meets_digits(value, 5, 6),
-        50 => meets_hex(value, 16),
-        60 => meets_qos(value),
-        70 => meets_hex(value, 1),
-        71 => value.len() == 1,
-        72 => meets_digits(value, 1, 1),
+        AT_LEAST_ONE => 1 <= value.len(),
+        AT_LEAST_FIVE => 5 <= value.len(),
+        SEVENTEEN => value.len() == 17,
+        BLOCKS => meets_blocks(value),
+        NUMBER => value.len() == 4,
+        ADDRESS => value.len() == 4,
+        LONG_DIGITS => meets_digits(value, 1, 15),
+        SHORT_DIGITS => meets_digits(value, 5, 6),
+        HEXADECIMAL => meets_hex(value, 16),
+        QOS => meets_qos(value),
+        HEX_DIGIT => meets_hex(value, 1),
+        ANY_OCTET => value.len() == 1,
+        DECIMAL_DIGIT => meets_digits(value, 1, 1),
         _ => true,
     }
 }
@@ -198,18 +249,18 @@ pub fn meets(number: u16, value: &[u8]) -> bool
         60 => 5 <= value.len(),
         3 => value.len() == 17,
         2 => meets_blocks(value),
-        6 | 40 | 42 | 46 | 48 | 258 => value.len() == 4,
-        7 | 41 | 43 | 45 | 47 | 49 | 61 | 259 => value.len() == 4,
-        4 | 8 | 260 | 262 => value.len() == 4,
-        9 | 263 => value.len() == 4,
-        31 | 257 => meets_digits(value, 1, 15),
-        264 | 274 => meets_digits(value, 5, 6),
-        265 => meets_digits(value, 5, 6),
+        6 | 40 | 42 | 46 | 48 | CHARGING_ID => value.len() == 4,
+        7 | 41 | 43 | 45 | 47 | 49 | 61 | PDP_TYPE => value.len() == 4,
+        4 | 8 | CG_ADDRESS | SGSN_ADDRESS => value.len() == 4,
+        9 | GGSN_ADDRESS => value.len() == 4,
+        31 | IMSI => meets_digits(value, 1, 15),
+        IMSI_MCC_MNC | SGSN_MCC_MNC => meets_digits(value, 5, 6),
+        GGSN_MCC_MNC => meets_digits(value, 5, 6),
         44 => meets_hex(value, 16),
-        261 => meets_qos(value),
-        266 => meets_hex(value, 1),
-        267 => value.len() == 1,
-        268 => meets_digits(value, 1, 1),
+        QOS_PROFILE => meets_qos(value),
+        NSAPI => meets_hex(value, 1),
+        STOP_INDICATOR => value.len() == 1,
+        SELECTION_MODE => meets_digits(value, 1, 1),
         _ => true,
     }
 }
@@ -225,7 +276,7 @@ fn plain_form(number: u16) -> u8
 fn octet_of(code: u8, x: u8) -> u32
     ensures { λ r. ⌜ r ≡ cond (eqb code 71) x (digitValue x % 16) ⌝ }
 {
-    if code == 71 {
+    if code == ANY_OCTET {
         x as u32
     } else {
         octets::half_of(x) as u32
@@ -308,7 +359,7 @@ fn any_digits(number: u16, v: &[u8], value: area::Part) -> Item
     requires { ⌜ formOf (shapeOf number) ≡ 4 ⌝ }
     ensures { λ r. ⌜ r ≡ itemFor number (now (v .entry)) value ⌝ }
 {
-    let long = (number == 31) | (number == 257);
+    let long = (number == 31) | (number == IMSI);
     digits_item(
         number,
         v,
@@ -361,16 +412,16 @@ pub fn item_of(v: &[u8], number: u16, value: area::Part) -> Item
     ensures { λ r. ⌜ r ≡ itemFor number (now (v .entry)) value ⌝ }
 {
     match number {
-        6 | 40 | 42 | 46 | 48 | 258 => number_item(number, v, value),
-        7 | 41 | 43 | 45 | 47 | 49 | 61 | 259 => number_item(number, v, value),
-        4 | 8 | 260 | 262 => address_item(number, v, value),
-        9 | 263 => address_item(number, v, value),
-        31 | 257 | 264 | 265 | 274 => any_digits(number, v, value),
+        6 | 40 | 42 | 46 | 48 | CHARGING_ID => number_item(number, v, value),
+        7 | 41 | 43 | 45 | 47 | 49 | 61 | PDP_TYPE => number_item(number, v, value),
+        4 | 8 | CG_ADDRESS | SGSN_ADDRESS => address_item(number, v, value),
+        9 | GGSN_ADDRESS => address_item(number, v, value),
+        31 | IMSI | IMSI_MCC_MNC | GGSN_MCC_MNC | SGSN_MCC_MNC => any_digits(number, v, value),
         44 => hex_item(number, v, value),
-        261 => qos_item(number, v, value),
-        266 => octet_item(70, number, v, value),
-        267 => octet_item(71, number, v, value),
-        268 => octet_item(72, number, v, value),
+        QOS_PROFILE => qos_item(number, v, value),
+        NSAPI => octet_item(HEX_DIGIT, number, v, value),
+        STOP_INDICATOR => octet_item(ANY_OCTET, number, v, value),
+        SELECTION_MODE => octet_item(DECIMAL_DIGIT, number, v, value),
         _ => raw_item(number, v.len(), value),
     }
 }

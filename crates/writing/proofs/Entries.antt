@@ -25,7 +25,8 @@ use Rattle.writing.proofs.Values.{shown}
 -- ---- The attribute of an item
 
 -- the front was laid, and the writer of the value answered
-module _ (n f c : ℕ) (st : List ℕ) (o : Octets st) (long : length st ≡ storedLength f c) (at put : ℕ) (front first : List ℕ) (v : Laying (at + headLength n) (standsAs n f c st) (valueAs n f c st) front put first) where
+module _ (n f c : ℕ) (st : List ℕ) (o : Octets st) (long : length st ≡ storedLength f c) (at put : ℕ) (front first : List ℕ)
+    (v : Laying (at + headLength n) (standsAs n f c st) (valueAs n f c st) front put first) where
   -- no readable attribute gives the item
   pub attributed-none : put ≡ 256 → (d out : List ℕ) → Attributed at n f c st d 0 out
   attributed-none e d out = go (standsAs n f c st) refl
@@ -49,7 +50,8 @@ module _ (n f c : ℕ) (st : List ℕ) (o : Octets st) (long : length st ≡ sto
     pub put-short : headLength n + put < 256
     put-short = omega (arith, put-is, shown n f c st o long stands .short)
 
-    pub attributed : (d out : List ℕ) → at + headLength n ≤ length d → front ≡ laidAt at (attributeFront n) d → out ≡ lengthsAt at (headLength n) put first → Attributed at n f c st d (headLength n + put) out
+    pub attributed : (d out : List ℕ) → at + headLength n ≤ length d → front ≡ laidAt at (attributeFront n) d
+        → out ≡ lengthsAt at (headLength n) put first → Attributed at n f c st d (headLength n + put) out
     attributed d out room g p =
         record {
           says = rw stands (omega (arith, put-is, attribute-long n (valueAs n f c st)));
@@ -103,7 +105,8 @@ module _ (l : List ℕ) (p : ℕ) (o : Octets l) (r : Headed) (says : r ≡ head
   size-within = omega (arith, ap length rest-is, length-drop (p + 4) l, behind-within)
 
   -- the first of it are its stored octets
-  pub attributed-here : (at put : ℕ) (d out : List ℕ) → Attributed at n f c (take (behind - (p + 4)) rest-here) d put out → Attributed at n f c stored-here d put out
+  pub attributed-here : (at put : ℕ) (d out : List ℕ) → Attributed at n f c (take (behind - (p + 4)) rest-here) d put out
+      → Attributed at n f c stored-here d put out
   attributed-here at put d out a = rw rest-is at a
 
   pub no-entry : standsAs n f c stored-here ≡ false → enteredAt l p ≡ refused 23

@@ -5,4 +5,3 @@ pub mod Entries
 pub mod Walking
 pub mod Transcribing
 pub mod Whole
-pub mod Exactly

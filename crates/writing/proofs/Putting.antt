@@ -76,17 +76,22 @@ pub plain-front : (n at : ℕ) (d : List ℕ) → n < 256 → at + headLength n 
 unfolding attributeFront
 plain-front n at d h room = each-laid at (n ∷ []) d (omega (arith, head-two n)) 0 refl ∙ rw (lt-ltb n 256 h)
 
-pub gpp-front : (n at : ℕ) (d first out : List ℕ) → 256 ≤ n → at + 8 ≤ length d → first ≡ laidAt at (26 ∷ 0 ∷ 0 ∷ 0 ∷ []) d → out ≡ laidAt (at + 4) (40 ∷ 175 ∷ (n - 256) ∷ 0 ∷ []) first → out ≡ laidAt at (attributeFront n) d
+pub gpp-front : (n at : ℕ) (d first out : List ℕ) → 256 ≤ n → at + 8 ≤ length d → first ≡ laidAt at (26 ∷ 0 ∷ 0 ∷ 0 ∷ []) d
+    → out ≡ laidAt (at + 4) (40 ∷ 175 ∷ (n - 256) ∷ 0 ∷ []) first → out ≡ laidAt at (attributeFront n) d
 unfolding attributeFront
 gpp-front n at d first out h room f e =
     e ∙ rw (f, le-ltb n 256 h) (laid-two at 4 (26 ∷ 0 ∷ 0 ∷ 0 ∷ []) (40 ∷ 175 ∷ (n - 256) ∷ 0 ∷ []) d refl room)
 
 -- The front, the value behind it and then the lengths: the attribute stands there.
-pub attribute-stands : (n k at : ℕ) (v d front first out : List ℕ) → k ≡ length v → at + headLength n ≤ length d → front ≡ laidAt at (attributeFront n) d → Begun (at + headLength n) v front first → out ≡ lengthsAt at (headLength n) k first → Begun at (attributeOctets n v) d out
+pub attribute-stands : (n k at : ℕ) (v d front first out : List ℕ) → k ≡ length v → at + headLength n ≤ length d
+    → front ≡ laidAt at (attributeFront n) d → Begun (at + headLength n) v front first → out ≡ lengthsAt at (headLength n) k first
+    → Begun at (attributeOctets n v) d out
 unfolding attributeFront attributeOctets lengthsAt headLength
 attribute-stands n k at v d front first out long room f w e = rw (sym long) (go (ltb n 256) room f w e)
   where
-    go : (b : Bool) → at + cond b 2 8 ≤ length d → front ≡ laidAt at (cond b (n ∷ []) (26 ∷ 0 ∷ 0 ∷ 0 ∷ 40 ∷ 175 ∷ (n - 256) ∷ 0 ∷ [])) d → Begun (at + cond b 2 8) v front first → out ≡ set (set first (at + cond b 2 8 - 1) (k + 2)) (at + 1) (k + cond b 2 8) → Begun at (cond b (n ∷ (k + 2) ∷ v) (26 ∷ (k + 8) ∷ 0 ∷ 0 ∷ 40 ∷ 175 ∷ (n - 256) ∷ (k + 2) ∷ v)) d out
+    go : (b : Bool) → at + cond b 2 8 ≤ length d → front ≡ laidAt at (cond b (n ∷ []) (26 ∷ 0 ∷ 0 ∷ 0 ∷ 40 ∷ 175 ∷ (n - 256) ∷ 0 ∷ [])) d
+        → Begun (at + cond b 2 8) v front first → out ≡ set (set first (at + cond b 2 8 - 1) (k + 2)) (at + 1) (k + cond b 2 8)
+        → Begun at (cond b (n ∷ (k + 2) ∷ v) (26 ∷ (k + 8) ∷ 0 ∷ 0 ∷ 40 ∷ 175 ∷ (n - 256) ∷ (k + 2) ∷ v)) d out
     go true room f w e =
         let x : ℕ = getD front (at + 1) 0 in
         let last : at + 2 - 1 ≡ at + 1 = omega arith in
@@ -103,14 +108,18 @@ pub attribute-long : (n : ℕ) (v : List ℕ) → length (attributeOctets n v) �
 unfolding attributeOctets headLength
 attribute-long n v = go (ltb n 256)
   where
-    go : (b : Bool) → length (cond b (n ∷ (length v + 2) ∷ v) (26 ∷ (length v + 8) ∷ 0 ∷ 0 ∷ 40 ∷ 175 ∷ (n - 256) ∷ (length v + 2) ∷ v)) ≡ cond b 2 8 + length v
+    go : (b : Bool)
+        → length (cond b (n ∷ (length v + 2) ∷ v) (26 ∷ (length v + 8) ∷ 0 ∷ 0 ∷ 40 ∷ 175 ∷ (n - 256) ∷ (length v + 2) ∷ v)) ≡ cond b 2 8 + length v
     go true = omega arith
     go false = omega arith
 
 -- ---- A QoS profile
 
 -- the release, the dash and the digits behind it
-pub profile-laid : (st r : List ℕ) (tens ones at : ℕ) (buf first out : List ℕ) → tens ≡ digitText (getD st 0 0 / 10 % 16) → ones ≡ digitText (getD st 0 0 % 10 % 16) → r ≡ take (length st - 1) (drop 1 st) → 1 ≤ length st → at + (1 + 2 * length st) ≤ length buf → first ≡ laidAt at (tens ∷ ones ∷ 45 ∷ []) buf → out ≡ laidAt (at + 3) (text (unpack (2 * (length st - 1)) r)) first → out ≡ laidAt at (profileText st) buf
+pub profile-laid : (st r : List ℕ) (tens ones at : ℕ) (buf first out : List ℕ) → tens ≡ digitText (getD st 0 0 / 10 % 16)
+    → ones ≡ digitText (getD st 0 0 % 10 % 16) → r ≡ take (length st - 1) (drop 1 st) → 1 ≤ length st
+    → at + (1 + 2 * length st) ≤ length buf → first ≡ laidAt at (tens ∷ ones ∷ 45 ∷ []) buf
+    → out ≡ laidAt (at + 3) (text (unpack (2 * (length st - 1)) r)) first → out ≡ laidAt at (profileText st) buf
 unfolding profileText
 profile-laid st r tens ones at buf first out t o q some room f h =
     let whole : r ≡ drop 1 st = q ∙ take-all (length st - 1) (drop 1 st) (omega (arith, length-drop 1 st)) in
@@ -124,7 +133,8 @@ pub unmarked : (l : List ℕ) → length l < 9 → false ≡ marked l
 unfolding marked
 unmarked l h = rw (lt-leb 9 (length l) h)
 
-pub mark-tested : (l : List ℕ) → 9 ≤ length l → eqb (getD l 0 0) 71 && (eqb (getD l 1 0) 73 && (eqb (getD l 2 0) 82 && (eqb (getD l 3 0) 0 && eqb (getD l 4 0) 1))) ≡ marked l
+pub mark-tested : (l : List ℕ) → 9 ≤ length l
+    → eqb (getD l 0 0) 71 && (eqb (getD l 1 0) 73 && (eqb (getD l 2 0) 82 && (eqb (getD l 3 0) 0 && eqb (getD l 4 0) 1))) ≡ marked l
 unfolding marked
 mark-tested [] h = absurd (omega arith)
 mark-tested (a ∷ []) h = absurd (omega arith)

@@ -142,7 +142,11 @@ module _ (n f c : ℕ) (st : List ℕ) (o : Octets st) (long : length st ≡ sto
       let six = no 6 (omega arith) in
       let seven = no 7 (omega arith) in
       let r : raw n (codeOf (shapeOf n)) f st ≡ true = rw (lt-ltb f 2 h) at stands in
-      record { value-is = rw (le-leb f 1 (omega arith), four, five, six, seven); short = rw (four, five, six, seven) (raw-short n (codeOf (shapeOf n)) f st r) }
+      record {
+        value-is = rw (le-leb f 1 (omega arith), four, five, six, seven);
+        short = rw (four, five, six, seven)
+            (raw-short n (codeOf (shapeOf n)) f st r);
+      }
 
   shown-shaped : 2 ≤ f → Shown n f c st
   unfolding standsAs shaped

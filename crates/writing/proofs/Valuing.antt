@@ -57,7 +57,9 @@ module _ (at c : ℕ) (st d out : List ℕ) (i : ℕ) (w : Pasted at (decimals (
   unfolding decimals
   digit-high h = rw (high-at (λ x. x + 48) c st i h here) at (pasted-more at (decimals (unpack c st)) d out (2 * i) w (omega (arith, decimals-length c st)))
 
-  pub digits-two : 2 * i + 1 < c → Pasted at (decimals (unpack c st)) d (set (set out (at + 2 * i) (getD st i 0 / 16 + 48)) (at + 2 * i + 1) (getD st i 0 % 16 + 48)) (2 * (i + 1))
+  pub digits-two : 2 * i + 1 < c
+      → Pasted at (decimals (unpack c st)) d (set (set out (at + 2 * i) (getD st i 0 / 16 + 48)) (at + 2 * i + 1) (getD st i 0 % 16 + 48))
+      (2 * (i + 1))
   unfolding decimals
   digits-two h =
       let next : 2 * (i + 1) ≡ 2 * i + 1 + 1 = omega arith in
@@ -73,7 +75,8 @@ module _ (at c : ℕ) (st d out : List ℕ) where
 
 -- the digits of a shape
 module _ (at : ℕ) (s : Shape) (c : ℕ) (st d : List ℕ) (long : length st ≡ packedLength c) (o : Octets st) where
-  pub digits-not-taken : (b : Bool) → b ≡ takesDigits s c → b ≡ false → (out : List ℕ) → Laying at (shaped s 4 c st) (text (unpack c st)) d 256 out
+  pub digits-not-taken : (b : Bool) → b ≡ takesDigits s c → b ≡ false → (out : List ℕ)
+      → Laying at (shaped s 4 c st) (text (unpack c st)) d 256 out
   digits-not-taken b t e out = laying-none at (shaped s 4 c st) (text (unpack c st)) d out (digits-shaped s c st long o ∙ ap (λ (a : Bool). a && packedDigits c st) (sym t ∙ e))
 
   module _ (b : Bool) (t : b ≡ takesDigits s c) (taken : b ≡ true) (said : Bool) (out : List ℕ) (u : Digited at c st d said out) where
@@ -90,7 +93,8 @@ module _ (at : ℕ) (s : Shape) (c : ℕ) (st d : List ℕ) (long : length st �
 
 -- ---- Four octets
 
-pub fours-laid : (at : ℕ) (own : Bool) (st d out : List ℕ) → own ≡ true → length st ≡ 4 → at + 4 ≤ length d → out ≡ laidAt at (getD st 0 0 ∷ getD st 1 0 ∷ getD st 2 0 ∷ getD st 3 0 ∷ []) d → Laying at (own && eqb (length st) 4) st d 4 out
+pub fours-laid : (at : ℕ) (own : Bool) (st d out : List ℕ) → own ≡ true → length st ≡ 4 → at + 4 ≤ length d
+    → out ≡ laidAt at (getD st 0 0 ∷ getD st 1 0 ∷ getD st 2 0 ∷ getD st 3 0 ∷ []) d → Laying at (own && eqb (length st) 4) st d 4 out
 fours-laid at own st d out e n room h =
     let four : getD st 0 0 ∷ getD st 1 0 ∷ getD st 2 0 ∷ getD st 3 0 ∷ [] ≡ st = part-four st 0 _ _ _ _ (omega arith) refl refl refl refl ∙ part-rest st 0 4 (omega arith) in
     laying-laid at (own && eqb (length st) 4) st d out (rw (e, n)) 4 (sym n) room (h ∙ ap (λ (s : List ℕ). laidAt at s d) four)
@@ -108,14 +112,16 @@ module _ (at code : ℕ) (st d : List ℕ) where
   pub profile-none : held qos 0 st ≡ false → (out : List ℕ) → Laying at (shaped (shapeBy code) 6 (length st) st) (profileText st) d 256 out
   profile-none e out = laying-none at (shaped (shapeBy code) 6 (length st) st) (profileText st) d out (sym profile-stands ∙ rw e (and-false (eqb code 60)))
 
-  pub profile-put : Octets st → code ≡ 60 → held qos 0 st ≡ true → (out : List ℕ) → at + 255 ≤ length d → out ≡ laidAt at (profileText st) d → Laying at (shaped (shapeBy code) 6 (length st) st) (profileText st) d (1 + 2 * length st) out
+  pub profile-put : Octets st → code ≡ 60 → held qos 0 st ≡ true → (out : List ℕ) → at + 255 ≤ length d → out ≡ laidAt at (profileText st) d
+      → Laying at (shaped (shapeBy code) 6 (length st) st) (profileText st) d (1 + 2 * length st) out
   profile-put o p e out room h =
       let q = profile st o e in
       laying-laid at (shaped (shapeBy code) 6 (length st) st) (profileText st) d out (sym profile-stands ∙ rw (eq-eqb code 60 p, e)) (1 + 2 * length st) (sym (profile-long st (q .some))) (omega (arith, q .few)) h
 
 -- ---- A value as it stands
 
-module _ (at n code f k : ℕ) (rest d out : List ℕ) (within : k ≤ length rest) (room : at + 255 ≤ length d) (stands : raw n code f (take k rest) ≡ true) where
+module _ (at n code f k : ℕ) (rest d out : List ℕ) (within : k ≤ length rest) (room : at + 255 ≤ length d)
+    (stands : raw n code f (take k rest) ≡ true) where
   size : k ≡ length (take k rest)
   size = sym (length-take-le k rest within)
 
@@ -142,28 +148,33 @@ or-not false b = refl
 -- the code is that of the shape of the item's number
 module _ (at n code : ℕ) (is : code ≡ codeOf (shapeOf n)) (c : ℕ) (st d : List ℕ) where
   -- digits
-  pub digits-valued : (said : ℕ) (out : List ℕ) → Laying at (shaped (shapeBy code) 4 c st) (text (unpack c st)) d said out → Laying at (standsAs n 4 c st) (valueAs n 4 c st) d said out
+  pub digits-valued : (said : ℕ) (out : List ℕ) → Laying at (shaped (shapeBy code) 4 c st) (text (unpack c st)) d said out
+      → Laying at (standsAs n 4 c st) (valueAs n 4 c st) d said out
   unfolding valueAs
   digits-valued said out u = laying-as at _ _ _ _ d said out (shaped-by-code n code is 4 c st (omega arith)) refl u
 
   -- a value as it stands, and an unknown form
-  pub raw-valued : (f : ℕ) → Past (Unit {0}) f forms → (said : ℕ) (out : List ℕ) → Laying at (raw n code f st) st d said out → Laying at (standsAs n f c st) (valueAs n f c st) d said out
+  pub raw-valued : (f : ℕ) → Past (Unit {0}) f forms → (said : ℕ) (out : List ℕ) → Laying at (raw n code f st) st d said out
+      → Laying at (standsAs n f c st) (valueAs n f c st) d said out
   unfolding valueAs
   raw-valued f other said out u =
       let value-is : st ≡ valueAs n f c st = rw (ne-eqb f 4 (other .0 .0 .0 .1), ne-eqb f 5 (other .0 .0 .1), ne-eqb f 6 (other .0 .1), ne-eqb f 7 (other .1)) in
       laying-as at (raw n code f st) (standsAs n f c st) st (valueAs n f c st) d said out (raw-by-code n code is f c st other) value-is u
 
   -- a form that one code has
-  alone-stands : (f own : ℕ) (t : Bool) → 2 ≤ f → formOf (shapeBy own) ≡ f → T (only f (own ∷ [])) → t ≡ held (shapeBy own) c st → eqb code own && t ≡ standsAs n f c st
+  alone-stands : (f own : ℕ) (t : Bool) → 2 ≤ f → formOf (shapeBy own) ≡ f → T (only f (own ∷ [])) → t ≡ held (shapeBy own) c st
+      → eqb code own && t ≡ standsAs n f c st
   alone-stands f own t h e a p = shaped-alone code f c st own t e a p ∙ shaped-by-code n code is f c st h
 
   -- the other forms, whose stored octets are counted
   module _ (long : length st ≡ c) where
-    pub number-valued : (said : ℕ) (out : List ℕ) → Laying at (eqb code 20 && eqb (length st) 4) st d said out → Laying at (standsAs n 2 c st) (valueAs n 2 c st) d said out
+    pub number-valued : (said : ℕ) (out : List ℕ) → Laying at (eqb code 20 && eqb (length st) 4) st d said out
+        → Laying at (standsAs n 2 c st) (valueAs n 2 c st) d said out
     unfolding valueAs formOf codeOf shapeBy
     number-valued said out u = laying-as at _ _ _ _ d said out (rw long (alone-stands 2 20 (eqb c 4) (omega arith) refl tt (sym (number-held c st long)))) refl u
 
-    pub address-valued : (said : ℕ) (out : List ℕ) → Laying at (eqb code 30 && eqb (length st) 4) st d said out → Laying at (standsAs n 3 c st) (valueAs n 3 c st) d said out
+    pub address-valued : (said : ℕ) (out : List ℕ) → Laying at (eqb code 30 && eqb (length st) 4) st d said out
+        → Laying at (standsAs n 3 c st) (valueAs n 3 c st) d said out
     unfolding valueAs formOf codeOf shapeBy
     address-valued said out u = laying-as at _ _ _ _ d said out (rw long (alone-stands 3 30 (eqb c 4) (omega arith) refl tt (sym (address-held c st long)))) refl u
 
@@ -172,10 +183,12 @@ module _ (at n code : ℕ) (is : code ≡ codeOf (shapeOf n)) (c : ℕ) (st d : 
       unfolding formOf codeOf shapeBy
       text-stands = alone-stands 5 50 (eqb c 8) (omega arith) refl tt (sym (hexadecimal-held c st long o))
 
-      pub text-none : not (eqb code 50) || not (eqb c 8) ≡ true → (out : List ℕ) → Laying at (standsAs n 5 c st) (valueAs n 5 c st) d 256 out
+      pub text-none : not (eqb code 50) || not (eqb c 8) ≡ true → (out : List ℕ)
+          → Laying at (standsAs n 5 c st) (valueAs n 5 c st) d 256 out
       text-none e out = laying-none at (standsAs n 5 c st) (valueAs n 5 c st) d out (sym text-stands ∙ not-true _ (sym (or-not (eqb code 50) (eqb c 8)) ∙ e))
 
-      pub text-valued : not (eqb code 50) || not (eqb c 8) ≡ false → (out : List ℕ) → at + 16 ≤ length d → out ≡ laidAt at (text (unpack 16 st)) d → Laying at (standsAs n 5 c st) (valueAs n 5 c st) d 16 out
+      pub text-valued : not (eqb code 50) || not (eqb c 8) ≡ false → (out : List ℕ) → at + 16 ≤ length d
+          → out ≡ laidAt at (text (unpack 16 st)) d → Laying at (standsAs n 5 c st) (valueAs n 5 c st) d 16 out
       unfolding valueAs
       text-valued e out room h =
           let b : eqb code 50 && eqb c 8 ≡ true = not-false _ (sym (or-not (eqb code 50) (eqb c 8)) ∙ e) in
@@ -186,14 +199,18 @@ module _ (at n code : ℕ) (is : code ≡ codeOf (shapeOf n)) (c : ℕ) (st d : 
     counted-stands : (f : ℕ) → 2 ≤ f → shaped (shapeBy code) f (length st) st ≡ standsAs n f c st
     counted-stands f h = rw long (shaped-by-code n code is f c st h)
 
-    pub profile-valued : (said : ℕ) (out : List ℕ) → Laying at (shaped (shapeBy code) 6 (length st) st) (profileText st) d said out → Laying at (standsAs n 6 c st) (valueAs n 6 c st) d said out
+    pub profile-valued : (said : ℕ) (out : List ℕ) → Laying at (shaped (shapeBy code) 6 (length st) st) (profileText st) d said out
+        → Laying at (standsAs n 6 c st) (valueAs n 6 c st) d said out
     unfolding valueAs
     profile-valued said out u = laying-as at _ _ _ _ d said out (counted-stands 6 (omega arith)) refl u
 
-    pub octet-none : shaped (shapeBy code) 7 (length st) st ≡ false → (out : List ℕ) → Laying at (standsAs n 7 c st) (valueAs n 7 c st) d 256 out
+    pub octet-none : shaped (shapeBy code) 7 (length st) st ≡ false → (out : List ℕ)
+        → Laying at (standsAs n 7 c st) (valueAs n 7 c st) d 256 out
     octet-none e out = laying-none at (standsAs n 7 c st) (valueAs n 7 c st) d out (sym (counted-stands 7 (omega arith)) ∙ e)
 
-    pub octet-valued : shaped (shapeBy code) 7 (length st) st ≡ true → (x : ℕ) → x ≡ cond (eqb code 71) (getD st 0 0) (digitText (getD st 0 0 % 16)) → at + 1 ≤ length d → Laying at (standsAs n 7 c st) (valueAs n 7 c st) d 1 (set d at x)
+    pub octet-valued : shaped (shapeBy code) 7 (length st) st ≡ true → (x : ℕ)
+        → x ≡ cond (eqb code 71) (getD st 0 0) (digitText (getD st 0 0 % 16)) → at + 1 ≤ length d
+        → Laying at (standsAs n 7 c st) (valueAs n 7 c st) d 1 (set d at x)
     unfolding valueAs
     octet-valued e x v room =
         laying-laid at (standsAs n 7 c st) (valueAs n 7 c st) d (set d at x) (sym (counted-stands 7 (omega arith)) ∙ e) 1 refl room

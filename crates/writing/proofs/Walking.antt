@@ -31,7 +31,8 @@ one-less : (left : ℕ) → 0 < left → left ≡ suc (left - 1)
 one-less left h = omega arith
 
 module _ (l : List ℕ) (left p : ℕ) where
-  pub items-enter : (n : ℕ) (v : List ℕ) (size : ℕ) → 0 < left → enteredAt l p ≡ holds n v size → itemsAt l left p ≡ next (record { place = p; number = n; value = v }) (itemsAt l (left - 1) (p + size))
+  pub items-enter : (n : ℕ) (v : List ℕ) (size : ℕ) → 0 < left → enteredAt l p ≡ holds n v size
+      → itemsAt l left p ≡ next (record { place = p; number = n; value = v }) (itemsAt l (left - 1) (p + size))
   items-enter n v size h e = ap (λ (k : ℕ). itemsAt l k p) (one-less left h) ∙ on-from l p (left - 1) (holds n v size) e
 
   pub items-refuse : (k : ℕ) → 0 < left → enteredAt l p ≡ refused k → itemsAt l left p ≡ broken k p

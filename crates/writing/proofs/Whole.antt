@@ -1,105 +1,117 @@
 -- What writing answers: each refusal exactly when its line is the first that applies, or the area. Assumes nothing.
-use mathlib.Core.Path.{_≡_, refl, sym, ap, _∙_}
-use mathlib.Core.Bool.{Bool, true, false, cond, not, _&&_}
+use mathlib.Core.Path.{_≡_, refl, sym, ap, subst, _∙_}
+use mathlib.Core.Bool.{Bool, true, false, not, _&&_}
 use mathlib.Core.List.{List}
 use Prim.Native.Nat.{ℕ, _+_, _≤_, _<_}
 use native.Mathlib.Omega.{arith}
-use lib.Dec.{leb, ltb, leb→le}
-use borrow.Author.Tests.{lt-ltb, le-ltb, not-true, not-false}
+use lib.Dec.{leb, leb→le}
+use borrow.Author.Tests.{not-true, not-false}
 use lib.ListN.{length, take}
+use lib.Seq.{length-take-le}
 use Rattle.meaning.specs.Octets.{same}
 use Rattle.meaning.specs.Jobs.{isKind, areFlags}
-use Rattle.meaning.specs.Framing.{attributes}
 use Rattle.meaning.specs.Refusals as book
-use Rattle.meaning.specs.Refusals.{none, refusal, fault, sheetRefusal}
-use Rattle.meaning.specs.Sheet.{mark, areaOf, itemsIn, kindIn, flagsIn, areaIn, marked, judged}
-use Rattle.meaning.specs.Answers.{over, after, writeAnswer, areaAnswer}
+use Rattle.meaning.specs.Refusals.{none, refusal, first, tooShort, sheetRefusal}
+use Rattle.meaning.specs.Sheet.{mark, kindIn, flagsIn, areaIn, marked, judged}
+use Rattle.meaning.specs.Answers as meant
+use Rattle.meaning.specs.Answers.{unless, over, after, writeAnswer, areaAnswer}
 use Rattle.meaning.proofs.Tests.{parts, passes}
+use Rattle.meaning.proofs.Sheets.{passed}
 use Rattle.octets.specs.Parts.{laidAt}
+use Rattle.octets.specs.Handing.{handing, Handed}
 use Rattle.octets.proofs.Overs.{laid-first}
+use Rattle.octets.proofs.Handing.{handed-not, handed-over}
 use Rattle.area.specs.declared.Refusal.{Refusal}
-use Rattle.writing.specs.declared.Judged.{Judged}
-use Rattle.writing.specs.declared.Judged.the-variants.{Items, Broken}
+use Rattle.writing.specs.declared.Judgement.{Judgement}
+use Rattle.writing.specs.declared.Judgement.the-variants as judgement
 use Rattle.writing.specs.declared.Writing.{Writing}
 use Rattle.writing.specs.declared.Writing.the-variants.{Area, Refused}
-use Rattle.writing.specs.Answers.{judgedFrom, judgedOf, Transcribed, Fronted, Handed, Wrote}
+use Rattle.writing.specs.Attributes.{span}
+use Rattle.writing.specs.Answers.{refusedAs, judgementFrom, judgementBy, itemsRefusal, sizeOf, Transcribed, areaSaid, HandedOver, writingOf, Wrote}
+use Rattle.writing.proofs.Transcribing.{refused-by}
 
 -- a marked sheet has its nine octets
 pub marked-nine : (l : List ℕ) → marked l ≡ true → 9 ≤ length l
 unfolding marked
 marked-nine l e = leb→le 9 (length l) (parts (leb 9 (length l)) (same (take 5 l) mark) (passes _ e) .0)
 
--- what the tests of kind and flags say
-pub both-allowed : (a b : Bool) (k f : ℕ) → a ≡ isKind k → b ≡ areFlags f → not (a && b) ≡ false → isKind k && areFlags f ≡ true
-both-allowed a b k f p q e = ap (λ (t : Bool). t && areFlags f) (sym p) ∙ ap (λ (t : Bool). a && t) (sym q) ∙ not-false (a && b) e
+-- ---- The judgement
 
-pub one-not-allowed : (a b : Bool) (k f : ℕ) → a ≡ isKind k → b ≡ areFlags f → not (a && b) ≡ true → isKind k && areFlags f ≡ false
-one-not-allowed a b k f p q e = ap (λ (t : Bool). t && areFlags f) (sym p) ∙ ap (λ (t : Bool). a && t) (sym q) ∙ not-true (a && b) e
+module _ (l buf : List ℕ) where
+  pub judged-20 : marked l ≡ false → Transcribed (judged l) l (refusedAs 20 0) buf
+  unfolding judged sheetRefusal
+  judged-20 m = refused-by (judged l) l buf 20 0 (rw m)
 
--- ---- An area that is made
+  -- what the tests of kind and flags say
+  module _ (m : marked l ≡ true) (a b : Bool) (p : a ≡ isKind (kindIn l)) (q : b ≡ areFlags (flagsIn l)) where
+    pub judged-21 : not (a && b) ≡ true → Transcribed (judged l) l (refusedAs 21 0) buf
+    unfolding judged sheetRefusal
+    judged-21 e = refused-by (judged l) l buf 21 0 (rw (m, sym p, sym q, e))
 
-module _ (area d : List ℕ) (kind flags : ℕ) where
-  pub handed-not : length d < length area → Handed area kind flags d (Refused (record { number = 25; second = length area })) d
-  handed-not h = let t = lt-ltb (length d) (length area) h in record { says = rw t; holds = rw t }
+    pub judged-on : not (a && b) ≡ false → (r : Judgement) → Transcribed (itemsRefusal l) l r buf → Transcribed (judged l) l r buf
+    unfolding judged sheetRefusal itemsRefusal
+    judged-on e r t =
+        let same : itemsRefusal l ≡ judged l = rw (m, sym p, sym q, e) in
+        subst (λ (by : book.Refusal). Transcribed by l r buf) same t
 
-  pub handed-over : (out : List ℕ) → length area ≤ length d → out ≡ laidAt 0 area d → Handed area kind flags d (Area (length area) kind flags) out
-  handed-over out h e = let t = le-ltb (length d) (length area) h in record { says = rw t; holds = e ∙ rw t (laid-first area d h) }
+-- a written area has at most 4,076 octets
+pub size-short : (l buf : List ℕ) (j : Judgement) → Transcribed (judged l) l j buf → sizeOf j ≤ 4076
+unfolding sizeOf
+size-short l buf j t = go (judged l) refl (t .says)
+  where
+    go : (r : book.Refusal) → judged l ≡ r → j ≡ judgementBy r l → sizeOf j ≤ 4076
+    go none e q = rw q (passed l e .short)
+    go (refusal n s) e q = rw q (omega arith)
 
--- ---- The answer
+-- ---- What is handed over
 
--- a sheet to which nothing of 22 and 23 applies, with the octets of its area
-record Sound (l : List ℕ) (n : ℕ) : Type 0 where
-  faultless : fault (itemsIn l) ≡ none
-  long : n ≡ length (areaIn l)
+-- the octets that a judgement tells of
+pub size-is : (j : Judgement) (n k f : ℕ) → j ≡ judgement.Writable n k f → n ≡ sizeOf j
+unfolding sizeOf
+size-is j n k f q = rw q
 
-module _ (l d : List ℕ) where
-  pub write-20 : marked l ≡ false → Wrote l d (Refused (record { number = 20; second = 0 })) d
-  unfolding writeAnswer judged sheetRefusal areaAnswer after
-  write-20 m = record { says = rw m; holds = rw m }
+pub size-none : (j : Judgement) (x : Refusal) → j ≡ judgement.Refused x → 0 ≡ sizeOf j
+unfolding sizeOf
+size-none j x q = rw q
 
-  pub write-21 : marked l ≡ true → isKind (kindIn l) && areFlags (flagsIn l) ≡ false → Wrote l d (Refused (record { number = 21; second = 0 })) d
-  unfolding writeAnswer judged sheetRefusal areaAnswer after
-  write-21 m k = record { says = rw (m, k); holds = rw (m, k) }
+module _ (j : Judgement) (made d : List ℕ) where
+  pub over-refused : (x : Refusal) → j ≡ judgement.Refused x → HandedOver j made d (Refused x) d
+  unfolding HandedOver after
+  over-refused x q = rw q (record { says = refl; holds = refl })
 
-  -- what the pass over the items answered
-  module _ (kind flags : ℕ) (f : Fronted l kind flags) (r : Judged) (buf : List ℕ) (t : Transcribed l r buf) where
-    -- 22 and 23
-    pub write-broken : (refused : Refusal) → r ≡ Broken refused → Wrote l d (Refused refused) d
-    unfolding writeAnswer judged sheetRefusal areaAnswer after judgedOf
-    write-broken refused q = go (fault (itemsIn l)) refl (sym q ∙ t .says)
-      where
-        go : (x : book.Refusal) → fault (itemsIn l) ≡ x → Broken refused ≡ judgedFrom x (length (areaOf (attributes (itemsIn l)))) → Wrote l d (Refused refused) d
-        go none p e = absurd (let z : _≡_ {A = ℕ} 0 1 = cc in omega arith)
-        go (refusal n s) p e =
-            let is : refused ≡ record { number = n; second = s } = cc in
-            record { says = rw (f .marked-is, f .allowed, p) (ap Refused is); holds = rw (f .marked-is, f .allowed, p) }
+  module _ (n k f : ℕ) (q : j ≡ judgement.Writable n k f) (within : sizeOf j ≤ length made) where
+    pub made-long : length (take n made) ≡ n
+    made-long = length-take-le n made (omega (arith, size-is j n k f q))
 
-    -- none of them
-    module _ (n : ℕ) (q : r ≡ Items n) where
-      sound : Sound l n
-      unfolding judgedOf areaIn
-      sound = go (fault (itemsIn l)) refl (sym q ∙ t .says)
-        where
-          go : (x : book.Refusal) → fault (itemsIn l) ≡ x → Items n ≡ judgedFrom x (length (areaOf (attributes (itemsIn l)))) → Sound l n
-          go none p e = record { faultless = p; long = cc }
-          go (refusal n s) p e = absurd (let z : _≡_ {A = ℕ} 0 1 = cc in omega arith)
+    pub over-not : length d < n → HandedOver j made d (Refused (record { number = 25; second = n })) d
+    unfolding HandedOver
+    over-not h = rw q (rw made-long at (handed-not (areaSaid k f) 25 (take n made) d (omega (arith, made-long))))
 
-      pub write-24 : 4076 < n → Wrote l d (Refused (record { number = 24; second = n })) d
-      unfolding writeAnswer judged sheetRefusal areaAnswer after
-      write-24 h =
-          let u = lt-ltb 4076 (length (areaIn l)) (omega (arith, sound .long)) in
-          record { says = rw (f .marked-is, f .allowed, sound .faultless, u, sound .long); holds = rw (f .marked-is, f .allowed, sound .faultless, u) }
+    pub over-laid : (out : List ℕ) → n ≤ length d → out ≡ laidAt 0 (take n made) d → HandedOver j made d (Area n k f) out
+    unfolding HandedOver
+    over-laid out h e =
+        let room : length (take n made) ≤ length d = omega (arith, made-long) in
+        rw q (rw made-long at (handed-over (areaSaid k f) 25 (take n made) d out room (e ∙ laid-first (take n made) d room)))
 
-      -- 25, or the area
-      pub written : n ≤ 4076 → n + 263 ≤ length buf → (said : Writing) (held : List ℕ) → Handed (take n buf) kind flags d said held → Wrote l d said held
-      unfolding writeAnswer judged sheetRefusal areaAnswer after
-      written h room said held w =
-          let made : Handed (areaIn l) kind flags d said held = rw (t .holds n q room) at w in
-          go (ltb (length d) (length (areaIn l))) refl (made .says) (made .holds)
-        where
-          u : ltb 4076 (length (areaIn l)) ≡ false
-          u = le-ltb 4076 (length (areaIn l)) (omega (arith, sound .long))
+-- ---- What is written
 
-          go : (b : Bool) → ltb (length d) (length (areaIn l)) ≡ b → said ≡ cond b (Refused (record { number = 25; second = length (areaIn l) })) (Area (length (areaIn l)) kind flags) → held ≡ cond b d (over (areaIn l) d) → Wrote l d said held
-          go true e s g = record { says = s ∙ rw (f .marked-is, f .allowed, sound .faultless, u, e); holds = g ∙ rw (f .marked-is, f .allowed, sound .faultless, u, e) }
-          go false e s g = record { says = s ∙ rw (f .marked-is, f .allowed, sound .faultless, u, e, f .kind-is, f .flags-is); holds = g ∙ rw (f .marked-is, f .allowed, sound .faultless, u, e) }
+-- what is answered for a refusal, and for the area
+answered : (r : book.Refusal) (w : meant.Written) → (d : List ℕ) (said : Writing) (held : List ℕ)
+    → meant.Promise (areaSaid (w .kind) (w .flags) (unless r (w .area))) (unless r (w .area)) d said held
+    → meant.Promise (writingOf (unless r w)) (areaAnswer (unless r w)) d said held
+unfolding areaAnswer
+answered none w d said held p = p
+answered (refusal n s) w d said held p = p
+
+-- What is handed over of a judged sheet, by a buffer with room behind its area, is what writing answers.
+pub written : (l made d : List ℕ) (j : Judgement) (said : Writing) (held : List ℕ) → Transcribed (judged l) l j made
+    → sizeOf j + span ≤ length made → HandedOver j made d said held → Wrote l d said held
+unfolding writeAnswer HandedOver handing sizeOf areaAnswer after
+written l made d j said held t room h = go (judged l) refl (t .says)
+  where
+    go : (r : book.Refusal) → judged l ≡ r → j ≡ judgementBy r l → Wrote l d said held
+    go none e q =
+        let all : take (length (areaIn l)) made ≡ areaIn l = ap (λ (i : Judgement). take (sizeOf i) made) (sym q) ∙ t .holds e room in
+        let p : Handed (areaSaid (kindIn l) (flagsIn l)) 25 (areaIn l) d said held = rw all at (rw q at h) in
+        rw e (answered (tooShort 25 (length (areaIn l)) (length d)) (record { kind = kindIn l; flags = flagsIn l; area = areaIn l }) d said held p)
+    go (refusal n s) e q = rw e (rw q at h)

@@ -1,60 +1,77 @@
 -- What the answers of this crate stand for, in the numbers and values of document 01. Assumes nothing.
 use Prim.Native.Nat.{ℕ, _+_, _≤_}
 use mathlib.Core.Path.{_≡_}
-use mathlib.Core.Bool.{true, cond, _&&_}
 use mathlib.Core.List.{List}
 use lib.Dec.{ltb}
 use lib.ListN.{length, take}
-use Rattle.meaning.specs.Framing.{Walk, attributes}
 use Rattle.meaning.specs.Refusals as book
-use Rattle.meaning.specs.Jobs.{isKind, areFlags}
-use Rattle.meaning.specs.Sheet.{areaOf, itemsIn, kindIn, flagsIn, areaIn, marked}
+use Rattle.meaning.specs.Sheet.{itemsIn, kindIn, flagsIn, areaIn, judged}
 use Rattle.meaning.specs.Answers as meant
-use Rattle.writing.specs.declared.Judged.{Judged}
-use Rattle.writing.specs.declared.Judged.the-variants.{Items, Broken}
+use Rattle.octets.specs.Handing.{Handed}
+use Rattle.writing.specs.Attributes.{span}
+use Rattle.writing.specs.declared.Judgement.{Judgement}
+use Rattle.writing.specs.declared.Judgement.the-variants as judgement
 use Rattle.writing.specs.declared.Writing.{Writing}
 use Rattle.writing.specs.declared.Writing.the-variants.{Area, Refused}
 
+-- ---- The judgement of a sheet
+
 -- a refusal by its number and second number
-abbrev pub judgedRefused : (number second : ℕ) → Judged
-judgedRefused k s = Broken (record { number = k; second = s })
+abbrev pub refusedAs : (number second : ℕ) → Judgement
+refusedAs k s = judgement.Refused (record { number = k; second = s })
 
--- the refusal, or the octets of the area where there is none
-abbrev pub judgedFrom : book.Refusal → (octets : ℕ) → Judged
-judgedFrom book.none n = Items n
-judgedFrom (book.refusal k s) n = judgedRefused k s
+-- the refusal; or where there is none, that the sheet is written, with the octets of its area, its kind and its flags
+abbrev pub judgementFrom : book.Refusal → (size kind flags : ℕ) → Judgement
+judgementFrom book.none n k f = judgement.Writable n k f
+judgementFrom (book.refusal x s) n k f = refusedAs x s
 
--- what the walk over a sheet's items gives
-unfoldable pub judgedOf : Walk → Judged
-judgedOf w = judgedFrom (book.fault w) (length (areaOf (attributes w)))
+-- the same of a sheet
+abbrev pub judgementBy : book.Refusal → (sheet : List ℕ) → Judgement
+judgementBy r sheet = judgementFrom r (length (areaIn sheet)) (kindIn sheet) (flagsIn sheet)
 
--- a buffer begins with the area of a sheet, so many octets, where it has room behind them for one attribute more with its head
-abbrev pub Holding : (sheet : List ℕ) (needed : ℕ) → List ℕ → Type 0
-Holding sheet n buf = n + 263 ≤ length buf → take n buf ≡ areaIn sheet
+-- what a sheet is judged by the first of 20 to 24 that applies
+unfoldable pub judgementOf : (sheet : List ℕ) → Judgement
+judgementOf sheet = judgementBy (judged sheet) sheet
 
--- what the pass over a sheet's items says, and what the buffer in which they are laid holds then
-pub record Transcribed (sheet : List ℕ) (said : Judged) (buf : List ℕ) : Type 0 where
-  pub says : said ≡ judgedOf (itemsIn sheet)
-  pub holds : (n : ℕ) → said ≡ Items n → Holding sheet n buf
+-- the first of 22 to 24 that applies to the items of a sheet
+unfoldable pub itemsRefusal : (sheet : List ℕ) → book.Refusal
+itemsRefusal sheet = book.first (book.fault (itemsIn sheet)) (book.tooLong 24 (length (areaIn sheet)))
 
--- a sheet to which neither 20 nor 21 applies, with its kind and flags
-pub record Fronted (sheet : List ℕ) (kind flags : ℕ) : Type 0 where
-  pub marked-is : marked sheet ≡ true
-  pub kind-is : kind ≡ kindIn sheet
-  pub flags-is : flags ≡ flagsIn sheet
-  pub allowed : isKind (kindIn sheet) && areFlags (flagsIn sheet) ≡ true
+-- what is said where no item is left, at a place of a sheet, and the items give so many octets
+unfoldable pub endedAs : (sheet : List ℕ) (place size : ℕ) → Judgement
+endedAs sheet place n =
+    judgementFrom (book.first (book.when (ltb place (length sheet)) 22 place) (book.tooLong 24 n)) n (kindIn sheet) (flagsIn sheet)
 
--- what is said of an area that is made, 25 where the lent buffer is too short for it, and what the buffer holds then
-pub record Handed (area : List ℕ) (kind flags : ℕ) (buffer : List ℕ) (said : Writing) (held : List ℕ) : Type 0 where
-  pub says : said ≡ cond (ltb (length buffer) (length area)) (Refused (record { number = 25; second = length area })) (Area (length area) kind flags)
-  pub holds : held ≡ cond (ltb (length buffer) (length area)) buffer (meant.over area buffer)
+-- the octets of the area that a judgement tells of
+unfoldable pub sizeOf : Judgement → ℕ
+sizeOf (judgement.Writable n k f) = n
+sizeOf (judgement.Refused r) = 0
+
+-- what a pass over a sheet says by the first refusal that applies, and what the buffer in which its area is laid begins with then, where it
+-- has room behind the area for one attribute more with its head
+pub record Transcribed (by : book.Refusal) (sheet : List ℕ) (said : Judgement) (buf : List ℕ) : Type 0 where
+  pub says : said ≡ judgementBy by sheet
+  pub holds : by ≡ book.none → sizeOf said + span ≤ length buf → take (sizeOf said) buf ≡ areaIn sheet
+
+-- ---- What is written
 
 -- an area by its length, with kind and flags; a refusal by its number and second number
+abbrev pub areaSaid : (kind flags : ℕ) → meant.Answer (List ℕ) → Writing
+areaSaid k f (meant.given a) = Area (length a) k f
+areaSaid k f (meant.refused n s) = Refused (record { number = n; second = s })
+
+-- what is said of a judged sheet whose area a buffer begins with, and what the lent buffer holds then
+unfoldable pub HandedOver : Judgement → (made buffer : List ℕ) (said : Writing) (held : List ℕ) → Type 0
+HandedOver (judgement.Writable n k f) made d said held = Handed (areaSaid k f) 25 (take n made) d said held
+HandedOver (judgement.Refused r) made d said held = meant.Promise (Refused r) (meant.refused (r .number) (r .second)) d said held
+
+-- the same of all that is written
 abbrev pub writingOf : meant.Answer meant.Written → Writing
 writingOf (meant.given w) = Area (length (w .area)) (w .kind) (w .flags)
-writingOf (meant.refused n k) = Refused (record { number = n; second = k })
+writingOf (meant.refused n s) = Refused (record { number = n; second = s })
 
 -- what writing answers, and what the lent buffer holds then
-pub record Wrote (sheet buffer : List ℕ) (said : Writing) (held : List ℕ) : Type 0 where
-  pub says : said ≡ writingOf (meant.writeAnswer sheet (length buffer))
-  pub holds : held ≡ meant.after (meant.areaAnswer (meant.writeAnswer sheet (length buffer))) buffer
+abbrev pub Wrote : (sheet buffer : List ℕ) (said : Writing) (held : List ℕ) → Type 0
+Wrote sheet buffer said held =
+    let answer = meant.writeAnswer sheet (length buffer) in
+    meant.Promise (writingOf answer) (meant.areaAnswer answer) buffer said held

@@ -15,6 +15,10 @@ use Rattle.octets.specs.DigitStrings.{packedDigits, decimals}
 use Rattle.shape.specs.Codes.{codeOf}
 use Rattle.item.specs.Stands.{standsAs}
 
+-- room for one attribute wherever it begins: a head of 8 octets and a value of at most 255
+abbrev pub span : ℕ
+span = 263
+
 -- what is laid of an attribute before its value, by the number alone: its head but for the lengths, 0 where they are to stand
 unfoldable pub attributeFront : (number : ℕ) → List ℕ
 attributeFront n = cond (isPlain n) (n ∷ []) (26 ∷ 0 ∷ 0 ∷ 0 ∷ 40 ∷ 175 ∷ (n - 256) ∷ 0 ∷ [])

@@ -9,13 +9,33 @@ ghost use lib.Dec.{eqb};
 ghost use lib.ListN.{length, take};
 ghost use Rattle.meaning.specs.Octets.{digitText, text, unpack, packedLength};
 ghost use Rattle.meaning.specs.Shapes.{shapeOf};
-ghost use Rattle.meaning.specs.Sheet.{marked, storedLength};
+ghost use Rattle.meaning.specs.Sheet.{marked, judged, storedLength};
 ghost use Rattle.octets.specs.Parts.{laidAt};
 ghost use Rattle.meaning.specs.Framing.{headLength};
 ghost use Rattle.shape.specs.Codes.{codeOf, shapeBy};
 ghost use Rattle.item.specs.Stands.{raw, shaped, standsAs};
-ghost use Rattle.writing.specs.Attributes.{profileText, valueAs, attributeFront, lengthsAt, Digited, Laying, Attributed};
-ghost use Rattle.writing.specs.Answers.{judgedRefused, Fronted, Transcribed, Handed, Wrote};
+ghost use Rattle.writing.specs.Attributes.{span, profileText, valueAs, attributeFront, lengthsAt, Digited, Laying, Attributed};
+ghost use Rattle.writing.specs.Answers.{refusedAs, endedAs, itemsRefusal, Transcribed, judgementOf, sizeOf, HandedOver, Wrote};
+
+// 24: "the attribute area would exceed 4,076 octets".
+const LONGEST: usize = 4076;
+
+// Room for one attribute wherever it begins: a head of 8 octets and a value of at most 255, as an item's count can announce.
+const SPAN: usize = 263;
+
+// Room for the longest area, and for one attribute more behind it.
+const ROOM: usize = 4339;
+
+// Most areas are short, and a short buffer takes less time to clear: sheets up to so many octets have one first, with the same room
+// behind areas up to so many.
+const SHORT_SHEET: usize = 512;
+
+const SHORT_AREA: usize = 377;
+
+const SHORT_ROOM: usize = 640;
+
+// What a writer of a value says where no readable attribute gives the item: more octets than a value can have.
+const NOTHING: usize = 256;
 
 // What writing answers: the octets of the area that stands at the buffer's start, with the kind and flags of the sheet, or a refusal.
 pub enum Writing {
@@ -23,10 +43,10 @@ pub enum Writing {
     Refused(Refusal),
 }
 
-// What the items of a sheet give: so many octets of an area, or the first refusal.
-enum Judged {
-    Items(usize),
-    Broken(Refusal),
+// What a sheet is judged: written, with the octets of its area, its kind and its flags, or refused.
+pub enum Judgement {
+    Writable { size: usize, kind: u8, flags: u8 },
+    Refused(Refusal),
 }
 
 // Lays four octets, which have room there.
@@ -83,7 +103,11 @@ fn put_profile(buf: &mut [u8], at: usize, stored: &[u8])
 fn octet_text(code: u8, x: u8) -> u8
     ensures { λ r. ⌜ r ≡ cond (eqb code 71) x (digitText (x % 16)) ⌝ }
 {
-    if code == 71 { x } else { octets::digit_text(x) }
+    if code == shape::ANY_OCTET {
+        x
+    } else {
+        octets::digit_text(x)
+    }
 }
 
 // Lays decimal digits that stand two to an octet, as text, and says true; false where some half is no digit, or an odd last low half
@@ -113,53 +137,56 @@ fn put_digits(buf: &mut [u8], at: usize, count: usize, stored: &[u8]) -> bool
     true
 }
 
-// Lays four octets of a number or an address, where the item's number is of that form; 256 where it is not.
+// Lays four octets of a number or an address, where the item's number is of that form; `NOTHING` where it is not.
 fn put_fours(buf: &mut [u8], at: usize, own: bool, stored: &[u8]) -> usize
     requires { ⌜ at + 4 ≤ length (now buf) ⌝ }
-    ensures { λ r. ⌜ Laying at (own && eqb (length (now (stored .entry))) 4) (now (stored .entry)) (now (buf .entry)) r (now (buf .exit)) ⌝ }
+    ensures { λ r. ⌜ Laying at (own && eqb (length (now (stored .entry))) 4) (now (stored .entry)) (now (buf .entry)) r
+        (now (buf .exit)) ⌝ }
 {
     if !own {
-        return 256;
+        return NOTHING;
     }
     if stored.len() != 4 {
-        return 256;
+        return NOTHING;
     }
     put_four(buf, at, [stored[0], stored[1], stored[2], stored[3]]);
     4
 }
 
-// Lays the digits of an item in form 4 and gives their count; 256 where no readable attribute gives the item.
+// Lays the digits of an item in form 4 and gives their count; `NOTHING` where no readable attribute gives the item.
 fn put_packed(buf: &mut [u8], at: usize, code: u8, count: u8, stored: &[u8]) -> usize
     requires { ⌜ (length (now stored) ≡ packedLength count) × (at + 255 ≤ length (now buf)) ⌝ }
-    ensures { λ r. ⌜ Laying at (shaped (shapeBy code) 4 count (now (stored .entry))) (text (unpack count (now (stored .entry)))) (now (buf .entry)) r (now (buf .exit)) ⌝ }
+    ensures { λ r. ⌜ Laying at (shaped (shapeBy code) 4 count (now (stored .entry))) (text (unpack count (now (stored .entry))))
+        (now (buf .entry)) r (now (buf .exit)) ⌝ }
 {
     let n = octets::wide(count);
     if !item::takes_digits(code, count) {
-        return 256;
+        return NOTHING;
     }
     if !put_digits(buf, at, n, stored) {
-        return 256;
+        return NOTHING;
     }
     n
 }
 
-// Lays the text of an item in form 6 and gives its octets; 256 where no readable attribute gives the item.
+// Lays the text of an item in form 6 and gives its octets; `NOTHING` where no readable attribute gives the item.
 fn put_qos(buf: &mut [u8], at: usize, code: u8, stored: &[u8]) -> usize
     requires { ⌜ at + 255 ≤ length (now buf) ⌝ }
-    ensures { λ r. ⌜ Laying at (shaped (shapeBy code) 6 (length (now (stored .entry))) (now (stored .entry))) (profileText (now (stored .entry))) (now (buf .entry)) r (now (buf .exit)) ⌝ }
+    ensures { λ r. ⌜ Laying at (shaped (shapeBy code) 6 (length (now (stored .entry))) (now (stored .entry)))
+        (profileText (now (stored .entry))) (now (buf .entry)) r (now (buf .exit)) ⌝ }
 {
-    if code != 60 {
-        return 256;
+    if code != shape::QOS {
+        return NOTHING;
     }
     if !item::holds_qos(stored) {
-        return 256;
+        return NOTHING;
     }
     put_profile(buf, at, stored);
     1 + 2 * stored.len()
 }
 
-// Lays a value that stands as it is, the first `size` octets of `rest`, and gives its octets; 256 where no readable attribute gives the
-// item. A short one goes with what stands behind it.
+// Lays a value that stands as it is, the first `size` octets of `rest`, and gives its octets; `NOTHING` where no readable attribute gives
+// the item. A short one goes with what stands behind it.
 fn put_raw(
     buf: &mut [u8],
     at: usize,
@@ -170,10 +197,11 @@ fn put_raw(
     size: usize,
 ) -> usize
     requires { ⌜ (size ≤ length (now rest)) × (at + 255 ≤ length (now buf)) ⌝ }
-    ensures { λ r. ⌜ Laying at (raw number code form (take size (now (rest .entry)))) (take size (now (rest .entry))) (now (buf .entry)) r (now (buf .exit)) ⌝ }
+    ensures { λ r. ⌜ Laying at (raw number code form (take size (now (rest .entry)))) (take size (now (rest .entry))) (now (buf .entry)) r
+        (now (buf .exit)) ⌝ }
 {
     if !item::is_raw(number, code, form, &rest[..size]) {
-        return 256;
+        return NOTHING;
     }
     if size <= 16 {
         octets::copy_sixteen(buf, at, rest);
@@ -183,7 +211,7 @@ fn put_raw(
     size
 }
 
-// Lays the value that an item stands for, by the first `size` octets of `rest`, and gives its octets; 256 where no readable attribute
+// Lays the value that an item stands for, by the first `size` octets of `rest`, and gives its octets; `NOTHING` where no readable attribute
 // gives the item.
 fn put_value(
     buf: &mut [u8],
@@ -195,17 +223,19 @@ fn put_value(
     rest: &[u8],
     size: usize,
 ) -> usize
-    requires { ⌜ (code ≡ codeOf (shapeOf number)) × ((size ≡ storedLength form count) × ((size ≤ length (now rest)) × (at + 255 ≤ length (now buf)))) ⌝ }
-    ensures { λ r. ⌜ Laying at (standsAs number form count (take size (now (rest .entry)))) (valueAs number form count (take size (now (rest .entry)))) (now (buf .entry)) r (now (buf .exit)) ⌝ }
+    requires { ⌜ (code ≡ codeOf (shapeOf number)) ×
+        ((size ≡ storedLength form count) × ((size ≤ length (now rest)) × (at + 255 ≤ length (now buf)))) ⌝ }
+    ensures { λ r. ⌜ Laying at (standsAs number form count (take size (now (rest .entry))))
+        (valueAs number form count (take size (now (rest .entry)))) (now (buf .entry)) r (now (buf .exit)) ⌝ }
 {
     let stored = &rest[..size];
     match form {
-        2 => put_fours(buf, at, code == 20, stored),
-        3 => put_fours(buf, at, code == 30, stored),
+        2 => put_fours(buf, at, code == shape::NUMBER, stored),
+        3 => put_fours(buf, at, code == shape::ADDRESS, stored),
         4 => put_packed(buf, at, code, count, stored),
         5 => {
-            if (code != 50) | (size != 8) {
-                return 256;
+            if (code != shape::HEXADECIMAL) | (size != 8) {
+                return NOTHING;
             }
             octets::unpack_at(buf, at, stored, 16);
             16
@@ -213,7 +243,7 @@ fn put_value(
         6 => put_qos(buf, at, code, stored),
         7 => {
             if !item::is_octet(code, stored) {
-                return 256;
+                return NOTHING;
             }
             buf[at] = octet_text(code, stored[0]);
             1
@@ -232,14 +262,14 @@ fn put_attribute(
     rest: &[u8],
     size: usize,
 ) -> usize
-    requires { ⌜ (number < 512) × ((size ≡ storedLength form count) × ((size ≤ length (now rest)) × (at + 263 ≤ length (now buf)))) ⌝ }
+    requires { ⌜ (number < 512) × ((size ≡ storedLength form count) × ((size ≤ length (now rest)) × (at + span ≤ length (now buf)))) ⌝ }
     ensures { λ r. ⌜ Attributed at number form count (take size (now (rest .entry))) (now (buf .entry)) r (now (buf .exit)) ⌝ }
 {
     let code = shape::code_of(number);
     let head = area::head_len(number);
     put_front(buf, at, number);
     let put = put_value(buf, at + head, number, code, form, count, rest, size);
-    if put == 256 {
+    if put == NOTHING {
         return 0;
     }
     put_lengths(buf, at, head, put);
@@ -257,23 +287,38 @@ fn is_marked(sheet: &[u8]) -> bool
         & ((sheet[1] == b'I') & ((sheet[2] == b'R') & ((sheet[3] == 0) & (sheet[4] == 1))))
 }
 
-// A refusal at a place of a sheet.
-fn broken(number: u32, place: usize) -> Judged
-    ensures { λ r. ⌜ r ≡ judgedRefused number place ⌝ }
+// A refusal, by its number and second number.
+fn refused(number: u32, second: usize) -> Judgement
+    ensures { λ r. ⌜ r ≡ refusedAs number second ⌝ }
 {
-    Judged::Broken(Refusal {
-        number,
-        second: place,
-    })
+    Judgement::Refused(Refusal { number, second })
 }
 
-// Tests and lays the items of a sheet from the left, and tests what remains behind them. An item that begins behind the last place where
-// any has room is laid at that place again and again, and counted.
-fn transcribe(sheet: &[u8], buf: &mut [u8]) -> Judged
-    requires { ⌜ (9 ≤ length (now sheet)) × (263 ≤ length (now buf)) ⌝ }
-    ensures { λ r. ⌜ Transcribed (now (sheet .entry)) r (now (buf .exit)) ⌝ }
+// What is said of a sheet whose items end at a place and give so many octets: 22 where octets remain, 24, or that it is written.
+fn ended(sheet: &[u8], place: usize, size: usize) -> Judgement
+    requires { ⌜ 9 ≤ length (now sheet) ⌝ }
+    ensures { λ r. ⌜ r ≡ endedAs (now (sheet .entry)) place size ⌝ }
 {
-    let last = buf.len() - 263;
+    if place < sheet.len() {
+        return refused(22, place);
+    }
+    if LONGEST < size {
+        return refused(24, size);
+    }
+    Judgement::Writable {
+        size,
+        kind: sheet[5],
+        flags: sheet[6],
+    }
+}
+
+// Tests and lays the items of a sheet from the left, and says what is to be said of them. An item that begins behind the last place where
+// any has room is laid at that place again and again, and counted.
+fn transcribe(sheet: &[u8], buf: &mut [u8]) -> Judgement
+    requires { ⌜ (9 ≤ length (now sheet)) × (span ≤ length (now buf)) ⌝ }
+    ensures { λ r. ⌜ Transcribed (itemsRefusal (now (sheet .entry))) (now (sheet .entry)) r (now (buf .exit)) ⌝ }
+{
+    let last = buf.len() - SPAN;
     let mut left = octets::u16_at(sheet, 7) as usize;
     let mut place: usize = 9;
     let mut written: usize = 0;
@@ -290,103 +335,92 @@ fn transcribe(sheet: &[u8], buf: &mut [u8]) -> Judged
                 let rest = &sheet[behind..];
                 let put = put_attribute(buf, at, number, form, count, rest, next - behind);
                 if put == 0 {
-                    return broken(23, place);
+                    return refused(23, place);
                 }
                 written += put;
                 place = next;
                 left -= 1;
             }
             Headed::Refused(refusal) => {
-                return Judged::Broken(refusal);
+                return Judgement::Refused(refusal);
             }
         }
     }
-    if place < sheet.len() {
-        return broken(22, place);
-    }
-    Judged::Items(written)
+    ended(sheet, place, written)
 }
 
-// An area that is made, laid over the start of the buffer, or refusal 25 where the buffer has not the room for it.
-fn hand_over(made: &[u8], kind: u8, flags: u8, area: &mut [u8]) -> Writing
-    ensures { λ r. ⌜ Handed (now (made .entry)) kind flags (now (area .entry)) r (now (area .exit)) ⌝ }
+// "For write: 20, 21, items from the left": the first of 20 to 24, or that the sheet is written; its area is laid into a buffer.
+fn judge_by(sheet: &[u8], buf: &mut [u8]) -> Judgement
+    requires { ⌜ span ≤ length (now buf) ⌝ }
+    ensures { λ r. ⌜ Transcribed (judged (now (sheet .entry))) (now (sheet .entry)) r (now (buf .exit)) ⌝ }
 {
-    let needed = made.len();
-    if area.len() < needed {
-        return Writing::Refused(Refusal {
-            number: 25,
-            second: needed,
-        });
+    if !is_marked(sheet) {
+        return refused(20, 0);
     }
-    octets::copy_at(area, 0, made);
-    Writing::Area {
-        length: needed,
-        kind,
-        flags,
+    if !(area::is_kind(octets::wide32(sheet[5])) & area::are_flags(octets::wide32(sheet[6]))) {
+        return refused(21, 0);
+    }
+    transcribe(sheet, buf)
+}
+
+// Whether a sheet is written, given room, or the first of refusals 20 to 24.
+pub fn judge(sheet: &[u8]) -> Judgement
+    ensures { λ r. ⌜ r ≡ judgementOf (now (sheet .entry)) ⌝ }
+{
+    let mut buf = [0u8; SPAN];
+    judge_by(sheet, &mut buf)
+}
+
+// The octets of the area that a judgement tells of, 0 where it tells of none.
+fn size_of(said: Judgement) -> usize
+    ensures { λ r. ⌜ r ≡ sizeOf said ⌝ }
+{
+    match said {
+        Judgement::Refused(_) => 0,
+        Judgement::Writable { size, .. } => size,
     }
 }
 
-// The area of a sheet to which neither 20 nor 21 applies, by a buffer with room for the longest; or the first of refusals 22 to 25.
-fn long(sheet: &[u8], kind: u8, flags: u8, area: &mut [u8]) -> Writing
-    requires { ⌜ Fronted (now sheet) kind flags ⌝ }
-    ensures { λ r. ⌜ Wrote (now (sheet .entry)) (now (area .entry)) r (now (area .exit)) ⌝ }
+// What a judged sheet is answered: the area, which a buffer begins with, laid over the start of the lent one; refusal 25 where that has not
+// the room for it; or the refusal that was judged.
+fn hand_over(said: Judgement, made: &[u8], area: &mut [u8]) -> Writing
+    requires { ⌜ sizeOf said ≤ length (now made) ⌝ }
+    ensures { λ r. ⌜ HandedOver said (now (made .entry)) (now (area .entry)) r (now (area .exit)) ⌝ }
 {
-    let mut buf = [0u8; 4339];
-    match transcribe(sheet, &mut buf) {
-        Judged::Broken(refusal) => {
+    match said {
+        Judgement::Refused(refusal) => {
             return Writing::Refused(refusal);
         }
-        Judged::Items(needed) => {
-            if 4076 < needed {
+        Judgement::Writable { size, kind, flags } => {
+            if area.len() < size {
                 return Writing::Refused(Refusal {
-                    number: 24,
-                    second: needed,
+                    number: 25,
+                    second: size,
                 });
             }
-            return hand_over(&buf[..needed], kind, flags, area);
+            octets::copy_at(area, 0, &made[..size]);
+            return Writing::Area {
+                length: size,
+                kind,
+                flags,
+            };
         }
     }
 }
 
-// The same. Most areas are short, and a short buffer takes less time to clear; an area that it has no room for is made again.
-fn short(sheet: &[u8], kind: u8, flags: u8, area: &mut [u8]) -> Writing
-    requires { ⌜ Fronted (now sheet) kind flags ⌝ }
-    ensures { λ r. ⌜ Wrote (now (sheet .entry)) (now (area .entry)) r (now (area .exit)) ⌝ }
-{
-    let mut buf = [0u8; 640];
-    match transcribe(sheet, &mut buf) {
-        Judged::Broken(refusal) => {
-            return Writing::Refused(refusal);
-        }
-        Judged::Items(needed) => {
-            if 377 < needed {
-                return long(sheet, kind, flags, area);
-            }
-            return hand_over(&buf[..needed], kind, flags, area);
-        }
-    }
-}
-
-// "Write: a sheet gives back area, kind and flags", the area at the buffer's start; a refusal leaves the buffer as it was.
+// "Write: a sheet gives back area, kind and flags", the area at the buffer's start; a refusal leaves the buffer as it was. An area that the
+// short buffer has no room for is made again.
 pub fn write(sheet: &[u8], area: &mut [u8]) -> Writing
     ensures { λ r. ⌜ Wrote (now (sheet .entry)) (now (area .entry)) r (now (area .exit)) ⌝ }
 {
-    if !is_marked(sheet) {
-        return Writing::Refused(Refusal {
-            number: 20,
-            second: 0,
-        });
+    if sheet.len() <= SHORT_SHEET {
+        let mut buf = [0u8; SHORT_ROOM];
+        let said = judge_by(sheet, &mut buf);
+        if size_of(said) <= SHORT_AREA {
+            return hand_over(said, &buf, area);
+        }
     }
-    let kind = sheet[5];
-    let flags = sheet[6];
-    if !(area::is_kind(kind as u32) & area::are_flags(flags as u32)) {
-        return Writing::Refused(Refusal {
-            number: 21,
-            second: 0,
-        });
-    }
-    if 512 < sheet.len() {
-        return long(sheet, kind, flags, area);
-    }
-    short(sheet, kind, flags, area)
+    let mut buf = [0u8; ROOM];
+    let said = judge_by(sheet, &mut buf);
+    hand_over(said, &buf, area)
 }

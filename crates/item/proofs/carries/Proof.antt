@@ -15,11 +15,8 @@ returns-2 c = carries-long _ _ (omega arith) (omega arith)
 returns-3 : tie.Need-returns-3
 returns-3 c = carries-plain _ _ (omega arith) (omega arith) (c .if3 .taken)
 
-other-vendor-requires : tie.Need-other-vendor-requires
-other-vendor-requires c κs = search needs
-
 returns-4 : tie.Need-returns-4
 returns-4 c = c .other-vendor .ensures ∙ carries-vendor _ _ (omega arith) (c .before .if3 .left)
 
 pub carries-spec : {M : Type 1} → statement M
-carries-spec = tie.close (tie.spec returns returns-2 returns-3 other-vendor-requires returns-4)
+carries-spec = tie.close (tie.spec returns returns-2 returns-3 (λ c κs. search needs) returns-4)

@@ -7,11 +7,8 @@ use Rattle.item.proofs.holds_one.Tie as tie
 returns : tie.Need-returns
 returns c = rw (ne-eqb _ 1 (c .if1 .taken))
 
-shared-slice-read-result : tie.Need-shared-slice-read-result
-shared-slice-read-result c = search needs
-
 returns-2 : tie.Need-returns-2
 returns-2 c = rw (eq-eqb _ 1 (c .before .if1 .left))
 
 pub holds-one-spec : {M : Type 1} → statement M
-holds-one-spec = tie.close (tie.spec returns shared-slice-read-result returns-2)
+holds-one-spec = tie.close (tie.spec returns (λ c. search needs) returns-2)

@@ -11,12 +11,6 @@ use Rattle.item.proofs.Shaping.{shaped-as, shaped-not}
 use Rattle.item.proofs.is_octet.Statement.{statement}
 use Rattle.item.proofs.is_octet.Tie as tie
 
-holds-one-requires : tie.Need-holds-one-requires
-holds-one-requires c κs = search needs
-
-holds-one-requires-2 : tie.Need-holds-one-requires-2
-holds-one-requires-2 c κs = search needs
-
 returns : tie.Need-returns
 unfolding shapeBy codeOf formOf
 returns c = c .holds-one .ensures ∙ sym (hex-digit-held _ _) ∙ shaped-as _ 7 _ _ 70 (c .before .match .keys1) refl
@@ -34,4 +28,4 @@ unfolding codeOf formOf
 returns-4 c = shaped-not _ 7 _ _ (70 ∷ 71 ∷ 72 ∷ []) tt (past-not-in (Unit {0}) _ (alone (70 ∷ 71 ∷ 72 ∷ [])) (c .match .rest))
 
 pub is-octet-spec : {M : Type 1} → statement M
-is-octet-spec = tie.close (tie.spec holds-one-requires holds-one-requires-2 returns returns-2 returns-3 returns-4)
+is-octet-spec = tie.close (tie.spec (λ c κs. search needs) (λ c κs. search needs) returns returns-2 returns-3 returns-4)

@@ -19,14 +19,8 @@ plain-form c =
 returns : tie.Need-returns
 returns c = raw-other _ _ _ _ (λ e. c .if2 .taken (e ∙ sym (plain-form (c .before))))
 
-meets-code-requires : tie.Need-meets-code-requires
-meets-code-requires c κs = search needs
-
 returns-2 : tie.Need-returns-2
 returns-2 c = raw-met _ _ _ _ (omega arith) (sym (c .before .meets-code .ensures) ∙ c .if4 .taken)
-
-carries-requires : tie.Need-carries-requires
-carries-requires c κs = search needs
 
 returns-3 : tie.Need-returns-3
 returns-3 c =
@@ -35,4 +29,4 @@ returns-3 c =
     ∙ ⊎-elim (λ k. raw-missed _ _ _ _ f (sym (k .1 .ensures) ∙ k .2 .left)) (λ k. raw-formless _ _ _ _ f (k .left)) (c .before .if3 .came)
 
 pub is-raw-spec : {M : Type 1} → statement M
-is-raw-spec = tie.close (tie.spec returns meets-code-requires returns-2 carries-requires returns-3)
+is-raw-spec = tie.close (tie.spec returns (λ c κs. search needs) returns-2 (λ c κs. search needs) returns-3)

@@ -10,11 +10,8 @@ returns c = number-plain (c .before .args .t) (c .before .args .sub) (c .before 
 returns-2 : tie.Need-returns-2
 returns-2 c = number-vendor (c .before .before .args .t) (c .before .before .args .sub) (c .before .before .args .form) (c .before .if1 .left) (c .if2 .taken)
 
-add-result : tie.Need-add-result
-add-result c = search needs
-
 returns-3 : tie.Need-returns-3
 returns-3 c = number-3gpp (c .before .before .args .t) (c .before .before .args .sub) (c .before .before .args .form) (c .before .if1 .left) (c .if2 .left)
 
 pub number-in-spec : {M : Type 1} → statement M
-number-in-spec = tie.close (tie.spec returns returns-2 add-result returns-3)
+number-in-spec = tie.close (tie.spec returns returns-2 (λ c. search needs) returns-3)

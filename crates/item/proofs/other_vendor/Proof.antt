@@ -8,11 +8,8 @@ use Rattle.item.proofs.other_vendor.Tie as tie
 returns : tie.Need-returns
 returns c = vendor-short _ (omega arith)
 
-u32-at-requires : tie.Need-u32-at-requires
-u32-at-requires c κs = search needs
-
 returns-2 : tie.Need-returns-2
 returns-2 c = vendor-id _ _ (omega arith) (c .u32-at .ensures)
 
 pub other-vendor-spec : {M : Type 1} → statement M
-other-vendor-spec = tie.close (tie.spec returns u32-at-requires returns-2)
+other-vendor-spec = tie.close (tie.spec returns (λ c κs. search needs) returns-2)

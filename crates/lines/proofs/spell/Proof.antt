@@ -15,29 +15,14 @@ abbrev μ-loop : tie.MeasureT-loop
 loop-holds : tie.Need-loop-holds Inv-loop μ-loop
 loop-holds c = spelling-none _ _ (omega arith) refl
 
-cast-octets : tie.Need-cast-octets Inv-loop μ-loop
-cast-octets c = search needs
-
-add-octets : tie.Need-add-octets Inv-loop μ-loop
-add-octets c = search needs
-
 array-write-octets : tie.Need-array-write-octets Inv-loop μ-loop
 array-write-octets c = omega (arith, c .before .loop .inv .within)
 
 sub-from : tie.Need-sub-from Inv-loop μ-loop
 sub-from c = omega (arith, spelling-room _ _ _ _ (c .before .loop .inv) (omega arith))
 
-loop-less : tie.Need-loop-less Inv-loop μ-loop
-loop-less c = search needs
-
 loop-again : tie.Need-loop-again Inv-loop μ-loop
 loop-again c = spelling-more _ _ _ _ (c .before .loop .inv) (omega arith)
-
-cast-octets-2 : tie.Need-cast-octets-2 Inv-loop μ-loop
-cast-octets-2 c = search needs
-
-add-octets-2 : tie.Need-add-octets-2 Inv-loop μ-loop
-add-octets-2 c = search needs
 
 array-write-octets-2 : tie.Need-array-write-octets-2 Inv-loop μ-loop
 array-write-octets-2 c = omega (arith, c .before .loop .inv .within)
@@ -52,13 +37,13 @@ spell-spec =
     Inv-loop
     μ-loop
     loop-holds
-    cast-octets
-    add-octets
+    (λ c. search needs)
+    (λ c. search needs)
     array-write-octets
     sub-from
-    loop-less
+    (λ c. search needs)
     loop-again
-    cast-octets-2
-    add-octets-2
+    (λ c. search needs)
+    (λ c. search needs)
     array-write-octets-2
     returns)

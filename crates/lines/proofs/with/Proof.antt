@@ -7,12 +7,6 @@ use borrow.Author.Needs.{needs}
 use Rattle.lines.proofs.with.Statement.{statement}
 use Rattle.lines.proofs.with.Tie as tie
 
-slice-aggregate-copy-at : tie.Need-slice-aggregate-copy-at
-slice-aggregate-copy-at c = search needs
-
-copy-at-requires : tie.Need-copy-at-requires
-copy-at-requires c κs = search needs
-
 add-t10 : tie.Need-add-t10
 add-t10 c = omega (arith, fits-room _ _ _ (sym (c .before .before .copy-at .ensures .says) ∙ c .if1 .taken))
 
@@ -23,4 +17,4 @@ returns-2 : tie.Need-returns-2
 returns-2 c = let a = c .before .before .before .before .before .before .args in followed-not (a .text) _ _ _ (c .before .before .copy-at .ensures) (c .if1 .left) refl refl
 
 pub with-spec : {M : Type 1} → statement M
-with-spec = tie.close (tie.spec slice-aggregate-copy-at copy-at-requires add-t10 returns returns-2)
+with-spec = tie.close (tie.spec (λ c. search needs) (λ c κs. search needs) add-t10 returns returns-2)

@@ -5,22 +5,10 @@ use borrow.Author.Needs.{needs}
 use Rattle.lines.proofs.with_decimal.Statement.{statement}
 use Rattle.lines.proofs.with_decimal.Tie as tie
 
-spell-requires : tie.Need-spell-requires
-spell-requires c κs = search needs
-
-slice-aggregate-part : tie.Need-slice-aggregate-part
-slice-aggregate-part c = search needs
-
-part-requires : tie.Need-part-requires
-part-requires c κs = search needs
-
-with-requires : tie.Need-with-requires
-with-requires c κs = search needs
-
 returns : tie.Need-returns
 returns c =
     c .with .ensures ∙ ap (followed (c .before .before .before .before .before .args .text)) (c .before .part .ensures ∙ c .before .before .before .before .spell .ensures)
 
 pub with-decimal-spec : {M : Type 1} → statement M
 with-decimal-spec =
-    tie.close (tie.spec spell-requires slice-aggregate-part part-requires with-requires returns)
+    tie.close (tie.spec (λ c κs. search needs) (λ c. search needs) (λ c κs. search needs) (λ c κs. search needs) returns)

@@ -16,35 +16,17 @@ Inv-loop s last i₀ i = Tested isDigit s i true × (i ≤ last + 8)
 abbrev μ-loop : tie.MeasureT-loop
 μ-loop s last i₀ i = last + 8 - i
 
-few-are-digits-requires : tie.Need-few-are-digits-requires Inv-loop μ-loop
-few-are-digits-requires c κs = search needs
-
 returns : tie.Need-returns Inv-loop μ-loop
 returns c = c .few-are-digits .ensures
-
-sub-last : tie.Need-sub-last Inv-loop μ-loop
-sub-last c = search needs
 
 loop-holds : tie.Need-loop-holds Inv-loop μ-loop
 loop-holds c = (tested-none isDigit _, omega arith)
 
-eight-digits-requires : tie.Need-eight-digits-requires Inv-loop μ-loop
-eight-digits-requires c κs = search needs
-
 returns-2 : tie.Need-returns-2 Inv-loop μ-loop
 returns-2 c = sym (part-fails isDigit _ _ 8 (sym (c .before .eight-digits .ensures) ∙ not-true _ (c .if2 .taken)))
 
-add-i : tie.Need-add-i Inv-loop μ-loop
-add-i c = search needs
-
-loop-less : tie.Need-loop-less Inv-loop μ-loop
-loop-less c = search needs
-
 loop-again : tie.Need-loop-again Inv-loop μ-loop
 loop-again c = (tested-part isDigit _ _ true (c .before .before .before .loop .inv .0) 8 true (sym (not-false _ (c .if2 .left)) ∙ c .before .eight-digits .ensures), omega arith)
-
-eight-digits-requires-2 : tie.Need-eight-digits-requires-2 Inv-loop μ-loop
-eight-digits-requires-2 c κs = search needs
 
 returns-3 : tie.Need-returns-3 Inv-loop μ-loop
 returns-3 c = tested-last isDigit _ _ true (c .before .before .loop .inv .0) refl _ 8 _ (omega arith) (omega arith) (c .eight-digits2 .ensures)
@@ -55,14 +37,14 @@ all-digits-spec =
     (tie.spec
     Inv-loop
     μ-loop
-    few-are-digits-requires
+    (λ c κs. search needs)
     returns
-    sub-last
+    (λ c. search needs)
     loop-holds
-    eight-digits-requires
+    (λ c κs. search needs)
     returns-2
-    add-i
-    loop-less
+    (λ c. search needs)
+    (λ c. search needs)
     loop-again
-    eight-digits-requires-2
+    (λ c κs. search needs)
     returns-3)

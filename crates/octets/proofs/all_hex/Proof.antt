@@ -16,35 +16,17 @@ Inv-loop s last i₀ i = Tested isHex s i true × (i ≤ last + 16)
 abbrev μ-loop : tie.MeasureT-loop
 μ-loop s last i₀ i = last + 16 - i
 
-few-hex-requires : tie.Need-few-hex-requires Inv-loop μ-loop
-few-hex-requires c κs = search needs
-
 returns : tie.Need-returns Inv-loop μ-loop
 returns c = c .few-hex .ensures
-
-sub-last : tie.Need-sub-last Inv-loop μ-loop
-sub-last c = search needs
 
 loop-holds : tie.Need-loop-holds Inv-loop μ-loop
 loop-holds c = (tested-none isHex _, omega arith)
 
-hex-sixteen-requires : tie.Need-hex-sixteen-requires Inv-loop μ-loop
-hex-sixteen-requires c κs = search needs
-
 returns-2 : tie.Need-returns-2 Inv-loop μ-loop
 returns-2 c = sym (part-fails isHex _ _ 16 (sym (c .before .hex-sixteen .ensures) ∙ not-true _ (c .if2 .taken)))
 
-add-i : tie.Need-add-i Inv-loop μ-loop
-add-i c = search needs
-
-loop-less : tie.Need-loop-less Inv-loop μ-loop
-loop-less c = search needs
-
 loop-again : tie.Need-loop-again Inv-loop μ-loop
 loop-again c = (tested-part isHex _ _ true (c .before .before .before .loop .inv .0) 16 true (sym (not-false _ (c .if2 .left)) ∙ c .before .hex-sixteen .ensures), omega arith)
-
-hex-sixteen-requires-2 : tie.Need-hex-sixteen-requires-2 Inv-loop μ-loop
-hex-sixteen-requires-2 c κs = search needs
 
 returns-3 : tie.Need-returns-3 Inv-loop μ-loop
 returns-3 c = tested-last isHex _ _ true (c .before .before .loop .inv .0) refl _ 16 _ (omega arith) (omega arith) (c .hex-sixteen2 .ensures)
@@ -55,14 +37,14 @@ all-hex-spec =
     (tie.spec
     Inv-loop
     μ-loop
-    few-hex-requires
+    (λ c κs. search needs)
     returns
-    sub-last
+    (λ c. search needs)
     loop-holds
-    hex-sixteen-requires
+    (λ c κs. search needs)
     returns-2
-    add-i
-    loop-less
+    (λ c. search needs)
+    (λ c. search needs)
     loop-again
-    hex-sixteen-requires-2
+    (λ c κs. search needs)
     returns-3)

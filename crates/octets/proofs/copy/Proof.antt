@@ -2,52 +2,34 @@
 use borrow.Author.Needs.{needs}
 use Prim.Native.Nat.{_-_, _+_, _≤_}
 use native.Mathlib.Omega.{arith}
-use Rattle.octets.specs.Parts.{Written}
-use Rattle.octets.proofs.Overs.{written-none, written-begun, written-before, written-on, written-all}
+use Rattle.octets.specs.Parts.{Overlaid}
+use Rattle.octets.proofs.Overs.{overlaid-none, overlaid-begun, overlaid-before, overlaid-on, overlaid-all}
 use Rattle.octets.proofs.copy.Statement.{statement}
 use Rattle.octets.proofs.copy.Tie as tie
 
 abbrev Inv-loop : tie.InvT-loop
-Inv-loop buf₀ src last i₀ buf i = Written src buf₀ buf i × (i ≤ last + 8)
+Inv-loop buf₀ src last i₀ buf i = Overlaid src buf₀ buf i × (i ≤ last + 8)
 
 abbrev μ-loop : tie.MeasureT-loop
 μ-loop buf₀ src last i₀ buf i = last + 8 - i
 
-copy-few-requires : tie.Need-copy-few-requires Inv-loop μ-loop
-copy-few-requires c κs = search needs
-
-same-length : tie.Need-same-length Inv-loop μ-loop
-same-length c = search needs
-
 returns : tie.Need-returns Inv-loop μ-loop
 returns c = c .before .before .copy-few .ensures
 
-sub-last : tie.Need-sub-last Inv-loop μ-loop
-sub-last c = search needs
-
 loop-holds : tie.Need-loop-holds Inv-loop μ-loop
-loop-holds c = (written-none _ _ (omega arith), omega arith)
+loop-holds c = (overlaid-none _ _ (omega arith), omega arith)
 
 copy-eight-requires : tie.Need-copy-eight-requires Inv-loop μ-loop
-copy-eight-requires c κs = (written-begun _ _ _ _ (c .before .before .loop .inv .0), omega arith)
-
-add-i : tie.Need-add-i Inv-loop μ-loop
-add-i c = search needs
-
-loop-less : tie.Need-loop-less Inv-loop μ-loop
-loop-less c = search needs
+copy-eight-requires c κs = (overlaid-begun _ _ _ _ (c .before .before .loop .inv .0), omega arith)
 
 loop-again : tie.Need-loop-again Inv-loop μ-loop
-loop-again c = (written-on _ _ _ _ _ _ (c .before .before .before .before .before .loop .inv .0) (c .before .before .copy-eight .ensures) (omega arith), omega arith)
+loop-again c = (overlaid-on _ _ _ _ _ _ (c .before .before .before .before .before .loop .inv .0) (c .before .before .copy-eight .ensures) (omega arith), omega arith)
 
 copy-eight-requires-2 : tie.Need-copy-eight-requires-2 Inv-loop μ-loop
-copy-eight-requires-2 c κs = (written-before _ _ _ _ _ (c .before .before .loop .inv .0) (omega arith), omega arith)
-
-same-length-2 : tie.Need-same-length-2 Inv-loop μ-loop
-same-length-2 c = search needs
+copy-eight-requires-2 c κs = (overlaid-before _ _ _ _ _ (c .before .before .loop .inv .0) (omega arith), omega arith)
 
 returns-2 : tie.Need-returns-2 Inv-loop μ-loop
-returns-2 c = written-all _ _ _ _ (written-on _ _ _ _ _ _ (c .before .before .before .before .before .loop .inv .0) (c .before .before .copy-eight2 .ensures) (omega arith)) (omega arith)
+returns-2 c = overlaid-all _ _ _ _ (overlaid-on _ _ _ _ _ _ (c .before .before .before .before .before .loop .inv .0) (c .before .before .copy-eight2 .ensures) (omega arith)) (omega arith)
 
 pub copy-spec : {M : Type 1} → statement M
 copy-spec =
@@ -55,15 +37,15 @@ copy-spec =
     (tie.spec
     Inv-loop
     μ-loop
-    copy-few-requires
-    same-length
+    (λ c κs. search needs)
+    (λ c. search needs)
     returns
-    sub-last
+    (λ c. search needs)
     loop-holds
     copy-eight-requires
-    add-i
-    loop-less
+    (λ c. search needs)
+    (λ c. search needs)
     loop-again
     copy-eight-requires-2
-    same-length-2
+    (λ c. search needs)
     returns-2)

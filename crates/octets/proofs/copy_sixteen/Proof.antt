@@ -17,17 +17,11 @@ room c =
     let t = parts (leb 16 (length (c .before .before .before .before .args .src .now))) (c .before .fits2 .result) (passes _ (c .if1 .taken)) in
     (leb-true _ _ (is-true _ (t .0)), leb-true _ _ (sym (c .before .fits2 .ensures) ∙ is-true _ (t .1)))
 
-fits-requires : tie.Need-fits-requires
-fits-requires c κs = search needs
-
 eight-of-requires : tie.Need-eight-of-requires
 eight-of-requires c κs = omega (arith, room c)
 
 eight-of-requires-2 : tie.Need-eight-of-requires-2
 eight-of-requires-2 c κs = omega (arith, room (c .before))
-
-slice-aggregate-lay-at : tie.Need-slice-aggregate-lay-at
-slice-aggregate-lay-at c = search needs
 
 lay-at-requires : tie.Need-lay-at-requires
 lay-at-requires c κs = let r = room (c .before .before .before .before) in search needs
@@ -35,29 +29,14 @@ lay-at-requires c κs = let r = room (c .before .before .before .before) in sear
 add-lay-at : tie.Need-add-lay-at
 add-lay-at c = let r = room (c .before .before .before .before .before .before .before .before) in search needs
 
-slice-aggregate-lay-at-2 : tie.Need-slice-aggregate-lay-at-2
-slice-aggregate-lay-at-2 c = search needs
-
 lay-at-requires-2 : tie.Need-lay-at-requires-2
 lay-at-requires-2 c κs = let r = room (c .before .before .before .before .before .before .before .before .before) in search needs
-
-same-length : tie.Need-same-length
-same-length c = search needs
 
 returns : tie.Need-returns
 returns c =
     let u = c .before .before .before .before .before .before .before .before .before .before .before .before in
     let r = room u in
     laid-parts _ 8 8 _ _ _ _ _ _ (omega arith) (omega arith) (c .before .before .before .before .before .before .before .before .before .before .before .eight-of .ensures) (c .before .before .before .before .before .before .before .before .before .before .eight-of2 .ensures) (c .before .before .before .before .before .before .before .lay-at .ensures) (c .before .before .lay-at2 .ensures)
-
-part-requires : tie.Need-part-requires
-part-requires c κs = search needs
-
-copy-at-requires : tie.Need-copy-at-requires
-copy-at-requires c κs = search needs
-
-same-length-2 : tie.Need-same-length-2
-same-length-2 c = search needs
 
 returns-2 : tie.Need-returns-2
 returns-2 c = rw (c .before .before .before .part .ensures) at (c .before .before .copy-at .ensures)
@@ -66,17 +45,17 @@ pub copy-sixteen-spec : {M : Type 1} → statement M
 copy-sixteen-spec =
     tie.close
     (tie.spec
-    fits-requires
+    (λ c κs. search needs)
     eight-of-requires
     eight-of-requires-2
-    slice-aggregate-lay-at
+    (λ c. search needs)
     lay-at-requires
     add-lay-at
-    slice-aggregate-lay-at-2
+    (λ c. search needs)
     lay-at-requires-2
-    same-length
+    (λ c. search needs)
     returns
-    part-requires
-    copy-at-requires
-    same-length-2
+    (λ c κs. search needs)
+    (λ c κs. search needs)
+    (λ c. search needs)
     returns-2)

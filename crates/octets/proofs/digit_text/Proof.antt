@@ -6,17 +6,11 @@ use native.Mathlib.Omega.{arith}
 use Rattle.octets.proofs.digit_text.Statement.{statement}
 use Rattle.octets.proofs.digit_text.Tie as tie
 
-add-result : tie.Need-add-result
-add-result c = search needs
-
 returns : tie.Need-returns
 returns c = rw (le-leb (c .before .args .n % 16) 9 (omega arith))
-
-add-result-2 : tie.Need-add-result-2
-add-result-2 c = search needs
 
 returns-2 : tie.Need-returns-2
 returns-2 c = rw (lt-leb (c .before .args .n % 16) 9 (omega arith))
 
 pub digit-text-spec : {M : Type 1} → statement M
-digit-text-spec = tie.close (tie.spec add-result returns add-result-2 returns-2)
+digit-text-spec = tie.close (tie.spec (λ c. search needs) returns (λ c. search needs) returns-2)

@@ -5,9 +5,6 @@ use native.Mathlib.Omega.{arith}
 use Rattle.octets.proofs.digit_value.Statement.{statement}
 use Rattle.octets.proofs.digit_value.Tie as tie
 
-sub-result : tie.Need-sub-result
-sub-result c = search needs
-
 returns : tie.Need-returns
 returns c = let x = c .before .args .x in rw (lt-leb x 57 (omega arith))
 
@@ -18,4 +15,4 @@ returns-3 : tie.Need-returns-3
 returns-3 c = let x = c .before .before .args .x in rw (le-leb x 57 (omega arith)) (omega arith)
 
 pub digit-value-spec : {M : Type 1} → statement M
-digit-value-spec = tie.close (tie.spec sub-result returns returns-2 returns-3)
+digit-value-spec = tie.close (tie.spec (λ c. search needs) returns returns-2 returns-3)

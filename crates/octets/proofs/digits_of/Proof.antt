@@ -6,20 +6,8 @@ use Rattle.octets.proofs.Gathering.{got-nothing, got-gathered}
 use Rattle.octets.proofs.digits_of.Statement.{statement}
 use Rattle.octets.proofs.digits_of.Tie as tie
 
-gathered-requires : tie.Need-gathered-requires
-gathered-requires c κs = search needs
-
-none-requires : tie.Need-none-requires
-none-requires c κs = search needs
-
 returns : tie.Need-returns
 returns c = c .none .ensures ∙ sym (got-nothing _ _ (c .before .before .gathered .ensures) (c .before .if1 .taken))
-
-u64-octets-requires : tie.Need-u64-octets-requires
-u64-octets-requires c κs = search needs
-
-spread-requires : tie.Need-spread-requires
-spread-requires c κs = search needs
 
 returns-2 : tie.Need-returns-2
 returns-2 c = got-gathered _ _ (c .before .before .before .gathered .ensures) (c .before .before .if1 .left) (c .spread .ensures .0 ∙ ap (unpack 15) (c .before .u64-octets .ensures)) (c .spread .ensures .1)
@@ -28,9 +16,9 @@ pub digits-of-spec : {M : Type 1} → statement M
 digits-of-spec =
     tie.close
     (tie.spec
-    gathered-requires
-    none-requires
+    (λ c κs. search needs)
+    (λ c κs. search needs)
     returns
-    u64-octets-requires
-    spread-requires
+    (λ c κs. search needs)
+    (λ c κs. search needs)
     returns-2)

@@ -7,15 +7,6 @@ use Rattle.octets.proofs.Numbers.{part-back}
 use Rattle.octets.proofs.eight_at.Statement.{statement}
 use Rattle.octets.proofs.eight_at.Tie as tie
 
-eight-of-requires : tie.Need-eight-of-requires
-eight-of-requires c κs = search needs
-
-slice-aggregate-number : tie.Need-slice-aggregate-number
-slice-aggregate-number c = search needs
-
-number-requires : tie.Need-number-requires
-number-requires c κs = search needs
-
 returns : tie.Need-returns
 returns c =
     let a = c .before .before .before .before .args in
@@ -23,4 +14,4 @@ returns c =
     part-back (a .s .now) (a .at) 8 _ o (search needs) (c .number .ensures .is ∙ ap numberOf (c .before .before .eight-of .ensures))
 
 pub eight-at-spec : {M : Type 1} → statement M
-eight-at-spec = tie.close (tie.spec eight-of-requires slice-aggregate-number number-requires returns)
+eight-at-spec = tie.close (tie.spec (λ c κs. search needs) (λ c. search needs) (λ c κs. search needs) returns)

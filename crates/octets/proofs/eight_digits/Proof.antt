@@ -6,17 +6,8 @@ use Rattle.octets.proofs.Gathering.{digits-turned}
 use Rattle.octets.proofs.eight_digits.Statement.{statement}
 use Rattle.octets.proofs.eight_digits.Tie as tie
 
-eight-at-requires : tie.Need-eight-at-requires
-eight-at-requires c κs = search needs
-
-turned-requires : tie.Need-turned-requires
-turned-requires c κs = search needs
-
-beyond-requires : tie.Need-beyond-requires
-beyond-requires c κs = search needs
-
 returns : tie.Need-returns
 returns c = c .beyond .ensures ∙ ap belowTen (c .before .turned .ensures ∙ ap turnedOf (c .before .before .eight-at .ensures)) ∙ digits-turned _
 
 pub eight-digits-spec : {M : Type 1} → statement M
-eight-digits-spec = tie.close (tie.spec eight-at-requires turned-requires beyond-requires returns)
+eight-digits-spec = tie.close (tie.spec (λ c κs. search needs) (λ c κs. search needs) (λ c κs. search needs) returns)

@@ -18,15 +18,6 @@ Inv-loop s i₀ i = Ended isDigit s i
 abbrev μ-loop : tie.MeasureT-loop
 μ-loop s i₀ i = i
 
-sub-i : tie.Need-sub-i Inv-loop μ-loop
-sub-i c = search needs
-
-shared-slice-read-is-digit : tie.Need-shared-slice-read-is-digit Inv-loop μ-loop
-shared-slice-read-is-digit c = search needs
-
-is-digit-requires : tie.Need-is-digit-requires Inv-loop μ-loop
-is-digit-requires c κs = search needs
-
 returns : tie.Need-returns Inv-loop μ-loop
 returns c = let s = c .before .before .before .before .before .args .s .now in
     sym (one-fails isDigit s (length s - 1) (omega arith) (sym (c .before .is-digit .ensures) ∙ not-true _ (c .if2 .taken)))
@@ -41,29 +32,14 @@ loop-holds c =
 sub-is-digit : tie.Need-sub-is-digit Inv-loop μ-loop
 sub-is-digit c = omega (arith, c .before .before .loop .inv .even)
 
-shared-slice-read-is-digit-2 : tie.Need-shared-slice-read-is-digit-2 Inv-loop μ-loop
-shared-slice-read-is-digit-2 c = search needs
-
-is-digit-requires-2 : tie.Need-is-digit-requires-2 Inv-loop μ-loop
-is-digit-requires-2 c κs = search needs
-
 sub-is-digit-2 : tie.Need-sub-is-digit-2 Inv-loop μ-loop
 sub-is-digit-2 c = omega (arith, c .before .before .before .before .loop .inv .even)
-
-shared-slice-read-is-digit-3 : tie.Need-shared-slice-read-is-digit-3 Inv-loop μ-loop
-shared-slice-read-is-digit-3 c = search needs
-
-is-digit-requires-3 : tie.Need-is-digit-requires-3 Inv-loop μ-loop
-is-digit-requires-3 c κs = search needs
 
 returns-2 : tie.Need-returns-2 Inv-loop μ-loop
 returns-2 c = ended-not isDigit _ _ (c .before .before .before .before .before .before .before .loop .inv) (omega arith) (ap₂ _&&_ (sym (c .before .before .before .is-digit2 .ensures)) (sym (c .before .is-digit3 .ensures)) ∙ not-true _ (c .if3 .taken))
 
 sub-i-2 : tie.Need-sub-i-2 Inv-loop μ-loop
 sub-i-2 c = omega (arith, c .before .before .before .before .before .before .before .loop .inv .even)
-
-loop-less : tie.Need-loop-less Inv-loop μ-loop
-loop-less c = search needs
 
 loop-again : tie.Need-loop-again Inv-loop μ-loop
 loop-again c = ended-more isDigit _ _ (c .before .before .before .before .before .before .before .loop .inv) (omega arith) (ap₂ _&&_ (sym (c .before .before .before .is-digit2 .ensures)) (sym (c .before .is-digit3 .ensures)) ∙ not-false _ (c .if3 .left))
@@ -77,19 +53,19 @@ few-are-digits-spec =
     (tie.spec
     Inv-loop
     μ-loop
-    sub-i
-    shared-slice-read-is-digit
-    is-digit-requires
+    (λ c. search needs)
+    (λ c. search needs)
+    (λ c κs. search needs)
     returns
     loop-holds
     sub-is-digit
-    shared-slice-read-is-digit-2
-    is-digit-requires-2
+    (λ c. search needs)
+    (λ c κs. search needs)
     sub-is-digit-2
-    shared-slice-read-is-digit-3
-    is-digit-requires-3
+    (λ c. search needs)
+    (λ c κs. search needs)
     returns-2
     sub-i-2
-    loop-less
+    (λ c. search needs)
     loop-again
     returns-3)

@@ -20,20 +20,8 @@ abbrev μ-loop : tie.MeasureT-loop
 loop-holds : tie.Need-loop-holds Inv-loop μ-loop
 loop-holds c = tested-none isHex _
 
-shared-slice-read-is-hex : tie.Need-shared-slice-read-is-hex Inv-loop μ-loop
-shared-slice-read-is-hex c = search needs
-
-is-hex-requires : tie.Need-is-hex-requires Inv-loop μ-loop
-is-hex-requires c κs = search needs
-
 returns : tie.Need-returns Inv-loop μ-loop
 returns c = tested-not isHex _ _ true (c .before .before .before .before .loop .inv) refl (omega arith) (sym (c .before .is-hex .ensures) ∙ not-true _ (c .if1 .taken))
-
-add-i : tie.Need-add-i Inv-loop μ-loop
-add-i c = search needs
-
-loop-less : tie.Need-loop-less Inv-loop μ-loop
-loop-less c = search needs
 
 loop-again : tie.Need-loop-again Inv-loop μ-loop
 loop-again c = tested-more isHex _ _ true (c .before .before .before .before .loop .inv) true (omega arith) (sym (not-false _ (c .if1 .left)) ∙ c .before .is-hex .ensures)
@@ -48,10 +36,10 @@ few-hex-spec =
     Inv-loop
     μ-loop
     loop-holds
-    shared-slice-read-is-hex
-    is-hex-requires
+    (λ c. search needs)
+    (λ c κs. search needs)
     returns
-    add-i
-    loop-less
+    (λ c. search needs)
+    (λ c. search needs)
     loop-again
     returns-2)

@@ -3,8 +3,5 @@ use borrow.Author.Needs.{needs}
 use Rattle.octets.proofs.is_digit.Statement.{statement}
 use Rattle.octets.proofs.is_digit.Tie as tie
 
-returns : tie.Need-returns
-returns c = search needs
-
 pub is-digit-spec : {M : Type 1} → statement M
-is-digit-spec = tie.close (tie.spec returns)
+is-digit-spec = tie.close (tie.spec (λ c. search needs))

@@ -6,11 +6,8 @@ use Rattle.meaning.specs.Octets.{between}
 use Rattle.octets.proofs.is_hex.Statement.{statement}
 use Rattle.octets.proofs.is_hex.Tie as tie
 
-is-digit-requires : tie.Need-is-digit-requires
-is-digit-requires c κs = search needs
-
 returns : tie.Need-returns
 returns c = ap (λ (digit : Bool). digit || between 65 70 (c .before .args .x)) (c .is-digit .ensures)
 
 pub is-hex-spec : {M : Type 1} → statement M
-is-hex-spec = tie.close (tie.spec is-digit-requires returns)
+is-hex-spec = tie.close (tie.spec (λ c κs. search needs) returns)

@@ -16,29 +16,8 @@ abbrev μ-loop : tie.MeasureT-loop
 loop-holds : tie.Need-loop-holds Inv-loop μ-loop
 loop-holds c = ended-none _ _
 
-sub-place : tie.Need-sub-place Inv-loop μ-loop
-sub-place c = search needs
-
-sub-place-2 : tie.Need-sub-place-2 Inv-loop μ-loop
-sub-place-2 c = search needs
-
-cast-out : tie.Need-cast-out Inv-loop μ-loop
-cast-out c = search needs
-
-slice-write-out : tie.Need-slice-write-out Inv-loop μ-loop
-slice-write-out c = search needs
-
-add-done : tie.Need-add-done Inv-loop μ-loop
-add-done c = search needs
-
-loop-less : tie.Need-loop-less Inv-loop μ-loop
-loop-less c = search needs
-
 loop-again : tie.Need-loop-again Inv-loop μ-loop
 loop-again c = ended-more _ _ _ _ _ (c .before .loop .inv) (omega arith)
-
-same-length : tie.Need-same-length Inv-loop μ-loop
-same-length c = search needs
 
 returns : tie.Need-returns Inv-loop μ-loop
 returns c = ended-all _ _ _ _ _ (c .before .loop .inv) (omega arith)
@@ -50,12 +29,12 @@ lay-spec =
     Inv-loop
     μ-loop
     loop-holds
-    sub-place
-    sub-place-2
-    cast-out
-    slice-write-out
-    add-done
-    loop-less
+    (λ c. search needs)
+    (λ c. search needs)
+    (λ c. search needs)
+    (λ c. search needs)
+    (λ c. search needs)
+    (λ c. search needs)
     loop-again
-    same-length
+    (λ c. search needs)
     returns)

@@ -13,54 +13,22 @@ use Rattle.octets.proofs.Gathering.{gathered-other, gathered-fits, long
 use Rattle.octets.proofs.long_digits.Statement.{statement}
 use Rattle.octets.proofs.long_digits.Tie as tie
 
-test : (c : tie.After-beyond2) → eqb (bitOr (c .before .beyond .result) (c .beyond2 .result)) 0 ≡ all isDigit (c .before .before .before .before .before .before .before .args .text .now)
+test : (c : tie.After-beyond2)
+    → eqb (bitOr (c .before .beyond .result) (c .beyond2 .result)) 0 ≡ all isDigit (c .before .before .before .before .before .before .before .args .text .now)
 test c =
     long-test (c .before .before .before .before .before .before .before .args .text .now) _ _ (search needs) (search needs) (c .before .before .before .before .turned .ensures ∙ ap turnedOf (c .before .before .before .before .before .eight-at .ensures)) (c .before .before .turned2 .ensures ∙ ap turnedOf (c .before .before .before .eight-at2 .ensures)) (c .before .beyond .result) (c .beyond2 .result) (c .before .beyond .ensures) (c .beyond2 .ensures)
 
 digits : (c : tie.Else1) → all isDigit (c .before .before .before .before .before .before .before .before .args .text .now) ≡ true
 digits c = sym (test (c .before)) ∙ eq-eqb _ 0 (c .if1 .left)
 
-eight-at-requires : tie.Need-eight-at-requires
-eight-at-requires c κs = search needs
-
-turned-requires : tie.Need-turned-requires
-turned-requires c κs = search needs
-
-sub-eight-at : tie.Need-sub-eight-at
-sub-eight-at c = search needs
-
-eight-at-requires-2 : tie.Need-eight-at-requires-2
-eight-at-requires-2 c κs = search needs
-
-turned-requires-2 : tie.Need-turned-requires-2
-turned-requires-2 c κs = search needs
-
-beyond-requires : tie.Need-beyond-requires
-beyond-requires c κs = search needs
-
-beyond-requires-2 : tie.Need-beyond-requires-2
-beyond-requires-2 c κs = search needs
-
 returns : tie.Need-returns
 returns c = sym (gathered-other _ (sym (test (c .before)) ∙ ne-eqb _ 0 (c .if1 .taken)))
-
-sub-s : tie.Need-sub-s
-sub-s c = search needs
-
-mul-s : tie.Need-mul-s
-mul-s c = search needs
 
 in-four-requires : tie.Need-in-four-requires
 in-four-requires c κs = sym (c .before .beyond2 .ensures) ∙ eq-eqb _ 0 (or-zero (c .before .before .beyond .result) (c .before .beyond2 .result) (c .if1 .left) .1)
 
-shl-low : tie.Need-shl-low
-shl-low c = search needs
-
 in-four-requires-2 : tie.Need-in-four-requires-2
 in-four-requires-2 c κs = sym (c .before .before .before .beyond .ensures) ∙ eq-eqb _ 0 (or-zero (c .before .before .before .beyond .result) (c .before .before .beyond2 .result) (c .before .if1 .left) .0)
-
-shl-result : tie.Need-shl-result
-shl-result c = search needs
 
 sub-result : tie.Need-sub-result
 sub-result c = one-left _ (search needs)
@@ -78,20 +46,20 @@ pub long-digits-spec : {M : Type 1} → statement M
 long-digits-spec =
     tie.close
     (tie.spec
-    eight-at-requires
-    turned-requires
-    sub-eight-at
-    eight-at-requires-2
-    turned-requires-2
-    beyond-requires
-    beyond-requires-2
+    (λ c κs. search needs)
+    (λ c κs. search needs)
+    (λ c. search needs)
+    (λ c κs. search needs)
+    (λ c κs. search needs)
+    (λ c κs. search needs)
+    (λ c κs. search needs)
     returns
-    sub-s
-    mul-s
+    (λ c. search needs)
+    (λ c. search needs)
     in-four-requires
-    shl-low
+    (λ c. search needs)
     in-four-requires-2
-    shl-result
+    (λ c. search needs)
     sub-result
     add-result
     add-result-2

@@ -19,22 +19,10 @@ loop-holds c = summed-none _ (c .before .pre)
 mul-n : tie.Need-mul-n Inv-loop μ-loop
 mul-n c = omega (arith, summed-room _ _ _ (c .before .loop .inv) (omega arith))
 
-shared-slice-read-wide : tie.Need-shared-slice-read-wide Inv-loop μ-loop
-shared-slice-read-wide c = search needs
-
-wide-requires : tie.Need-wide-requires Inv-loop μ-loop
-wide-requires c κs = search needs
-
 add-n : tie.Need-add-n Inv-loop μ-loop
 add-n c =
     let u = c .before .before .before .loop in
     omega (arith, summed-room _ _ _ (u .inv) (omega arith), c .before .shared-slice-known2 .given (u .i))
-
-add-i : tie.Need-add-i Inv-loop μ-loop
-add-i c = search needs
-
-loop-less : tie.Need-loop-less Inv-loop μ-loop
-loop-less c = search needs
 
 loop-again : tie.Need-loop-again Inv-loop μ-loop
 loop-again c =
@@ -52,10 +40,10 @@ number-spec =
     μ-loop
     loop-holds
     mul-n
-    shared-slice-read-wide
-    wide-requires
+    (λ c. search needs)
+    (λ c κs. search needs)
     add-n
-    add-i
-    loop-less
+    (λ c. search needs)
+    (λ c. search needs)
     loop-again
     returns)

@@ -15,17 +15,12 @@ use Rattle.octets.proofs.pack_at.Tie as tie
 size : (c : tie.After-packed-len) → c .packed-len .result ≡ length (pack (halves (c .before .before .before .args .text .now)))
 size c = c .packed-len .ensures ∙ sym (halves-packed (c .before .before .before .args .text .now))
 
-room : (c : tie.Else1) → c .before .before .before .before .before .args .at + packedLength (length (c .before .before .before .before .before .args .text .now)) ≤ length (c .before .before .before .before .before .args .buf .now)
+room : (c : tie.Else1)
+    → c .before .before .before .before .before .args .at + packedLength (length (c .before .before .before .before .before .args .text .now)) ≤ length (c .before .before .before .before .before .args .buf .now)
 room c =
     let a = c .before .before .before .before .before .args in
     let r = laid-room (a .at) (pack (halves (a .text .now))) (a .buf .now) _ _ (size (c .before .before)) (c .before .fits2 .ensures) (not-false _ (c .if1 .left)) in
     omega (arith, c .before .before .packed-len .ensures)
-
-packed-len-requires : tie.Need-packed-len-requires
-packed-len-requires c κs = search needs
-
-fits-requires : tie.Need-fits-requires
-fits-requires c κs = search needs
 
 returns : tie.Need-returns
 returns c =
@@ -38,14 +33,8 @@ sub-pack-text c = omega (arith, room c)
 part-pack-text-start : tie.Need-part-pack-text-start
 part-pack-text-start c = let r = room c in search needs
 
-part-pack-text-end : tie.Need-part-pack-text-end
-part-pack-text-end c = search needs
-
 pack-text-requires : tie.Need-pack-text-requires
 pack-text-requires c κs = let r = room (c .before) in simp (length-take, length-drop) (omega arith)
-
-same-length : tie.Need-same-length
-same-length c = search needs
 
 returns-2 : tie.Need-returns-2
 returns-2 c =
@@ -57,12 +46,12 @@ pub pack-at-spec : {M : Type 1} → statement M
 pack-at-spec =
     tie.close
     (tie.spec
-    packed-len-requires
-    fits-requires
+    (λ c κs. search needs)
+    (λ c κs. search needs)
     returns
     sub-pack-text
     part-pack-text-start
-    part-pack-text-end
+    (λ c. search needs)
     pack-text-requires
-    same-length
+    (λ c. search needs)
     returns-2)

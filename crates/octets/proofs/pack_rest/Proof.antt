@@ -3,15 +3,15 @@ use borrow.Author.Needs.{needs}
 use Prim.Native.Nat.{_-_, _≤_}
 use native.Mathlib.Omega.{arith}
 use Rattle.meaning.specs.Octets.{pack}
-use Rattle.octets.specs.Parts.{Written}
+use Rattle.octets.specs.Parts.{Overlaid}
 use Rattle.octets.specs.DigitStrings.{halves}
-use Rattle.octets.proofs.Overs.{written-more, written-all}
+use Rattle.octets.proofs.Overs.{overlaid-more, overlaid-all}
 use Rattle.octets.proofs.Halves.{halves-packed, halves-one}
 use Rattle.octets.proofs.pack_rest.Statement.{statement}
 use Rattle.octets.proofs.pack_rest.Tie as tie
 
 abbrev Inv-loop : tie.InvT-loop
-Inv-loop buf₀ text at pairs i₀ buf i = Written (pack (halves text)) buf₀ buf i × (i ≤ pairs)
+Inv-loop buf₀ text at pairs i₀ buf i = Overlaid (pack (halves text)) buf₀ buf i × (i ≤ pairs)
 
 abbrev μ-loop : tie.MeasureT-loop
 μ-loop buf₀ text at pairs i₀ buf i = pairs - i
@@ -19,53 +19,23 @@ abbrev μ-loop : tie.MeasureT-loop
 loop-holds : tie.Need-loop-holds Inv-loop μ-loop
 loop-holds c = (c .before .before .pre .0, omega arith)
 
-two-halves-requires : tie.Need-two-halves-requires Inv-loop μ-loop
-two-halves-requires c κs = search needs
-
 slice-write-buf : tie.Need-slice-write-buf Inv-loop μ-loop
 slice-write-buf c = omega (arith, halves-packed (c .before .before .before .before .before .args .text .now))
 
-add-i : tie.Need-add-i Inv-loop μ-loop
-add-i c = search needs
-
-loop-less : tie.Need-loop-less Inv-loop μ-loop
-loop-less c = search needs
-
 loop-again : tie.Need-loop-again Inv-loop μ-loop
-loop-again c = (written-more _ _ _ _ _ (c .before .before .loop .inv .0) (omega (arith, halves-packed (c .before .before .before .before .before .args .text .now))) (c .two-halves .ensures), omega arith)
-
-mul-if1 : tie.Need-mul-if1 Inv-loop μ-loop
-mul-if1 c = search needs
-
-mul-half-of : tie.Need-mul-half-of Inv-loop μ-loop
-mul-half-of c = search needs
-
-shared-slice-read-half-of : tie.Need-shared-slice-read-half-of Inv-loop μ-loop
-shared-slice-read-half-of c = search needs
-
-half-of-requires : tie.Need-half-of-requires Inv-loop μ-loop
-half-of-requires c κs = search needs
-
-pair-requires : tie.Need-pair-requires Inv-loop μ-loop
-pair-requires c κs = search needs
+loop-again c = (overlaid-more _ _ _ _ _ (c .before .before .loop .inv .0) (omega (arith, halves-packed (c .before .before .before .before .before .args .text .now))) (c .two-halves .ensures), omega arith)
 
 slice-write-buf-2 : tie.Need-slice-write-buf-2 Inv-loop μ-loop
 slice-write-buf-2 c = omega (arith, halves-packed (c .before .before .before .before .before .before .before .before .args .text .now))
-
-same-length : tie.Need-same-length Inv-loop μ-loop
-same-length c = search needs
 
 returns : tie.Need-returns Inv-loop μ-loop
 returns c =
     let u = c .before .before .before .before .before .loop in
     let text = c .before .before .before .before .before .before .before .before .args .text .now in
-    written-all _ _ _ _ (written-more _ _ _ _ _ (u .inv .0) (omega (arith, halves-packed text)) (halves-one text (u .i) (omega arith) (omega arith) _ _ (c .before .half-of .ensures) (c .pair .ensures))) (omega (arith, halves-packed text))
-
-same-length-2 : tie.Need-same-length-2 Inv-loop μ-loop
-same-length-2 c = search needs
+    overlaid-all _ _ _ _ (overlaid-more _ _ _ _ _ (u .inv .0) (omega (arith, halves-packed text)) (halves-one text (u .i) (omega arith) (omega arith) _ _ (c .before .half-of .ensures) (c .pair .ensures))) (omega (arith, halves-packed text))
 
 returns-2 : tie.Need-returns-2 Inv-loop μ-loop
-returns-2 c = written-all _ _ _ _ (c .before .before .loop .inv .0) (omega (arith, halves-packed (c .before .before .before .before .before .args .text .now)))
+returns-2 c = overlaid-all _ _ _ _ (c .before .before .loop .inv .0) (omega (arith, halves-packed (c .before .before .before .before .before .args .text .now)))
 
 pub pack-rest-spec : {M : Type 1} → statement M
 pack-rest-spec =
@@ -74,18 +44,18 @@ pack-rest-spec =
     Inv-loop
     μ-loop
     loop-holds
-    two-halves-requires
+    (λ c κs. search needs)
     slice-write-buf
-    add-i
-    loop-less
+    (λ c. search needs)
+    (λ c. search needs)
     loop-again
-    mul-if1
-    mul-half-of
-    shared-slice-read-half-of
-    half-of-requires
-    pair-requires
+    (λ c. search needs)
+    (λ c. search needs)
+    (λ c. search needs)
+    (λ c κs. search needs)
+    (λ c κs. search needs)
     slice-write-buf-2
-    same-length
+    (λ c. search needs)
     returns
-    same-length-2
+    (λ c. search needs)
     returns-2)

@@ -18,59 +18,17 @@ test c =
 digits : (c : tie.Else1) → all isDigit (c .before .before .before .before .before .before .args .text .now) ≡ true
 digits c = sym (test (c .before)) ∙ eq-eqb _ 0 (c .if1 .left)
 
-u32-at-requires : tie.Need-u32-at-requires
-u32-at-requires c κs = search needs
-
-cast-turned : tie.Need-cast-turned
-cast-turned c = search needs
-
-mul-turned : tie.Need-mul-turned
-mul-turned c = search needs
-
-sub-u32-at : tie.Need-sub-u32-at
-sub-u32-at c = search needs
-
-u32-at-requires-2 : tie.Need-u32-at-requires-2
-u32-at-requires-2 c κs = search needs
-
-cast-turned-2 : tie.Need-cast-turned-2
-cast-turned-2 c = search needs
-
-add-turned : tie.Need-add-turned
-add-turned c = search needs
-
-turned-requires : tie.Need-turned-requires
-turned-requires c κs = search needs
-
-beyond-requires : tie.Need-beyond-requires
-beyond-requires c κs = search needs
-
 returns : tie.Need-returns
 returns c = sym (gathered-other _ (sym (test (c .before)) ∙ ne-eqb _ 0 (c .if1 .taken)))
 
 in-four-requires : tie.Need-in-four-requires
 in-four-requires c κs = sym (c .before .beyond .ensures) ∙ eq-eqb _ 0 (c .if1 .left)
 
-sub-s : tie.Need-sub-s
-sub-s c = search needs
-
-mul-s : tie.Need-mul-s
-mul-s c = search needs
-
-shl-low : tie.Need-shl-low
-shl-low c = search needs
-
-shl-low-2 : tie.Need-shl-low-2
-shl-low-2 c = search needs
-
 sub-low : tie.Need-sub-low
 sub-low c = one-left _ (search needs)
 
 add-low : tie.Need-add-low
 add-low c = low-fits _ _ (search needs)
-
-add-result : tie.Need-add-result
-add-result c = search needs
 
 returns-2 : tie.Need-returns-2
 returns-2 c = short-gathered (c .before .before .before .before .before .before .before .args .text .now) _ _ _ (slice-octets (c .before .before .before .before .before .before .before .args .text .now) (c .before .before .before .before .before .before .shared-slice-known .given)) (search needs) (search needs) (c .before .before .before .before .before .u32-at .ensures) (c .before .before .before .before .u32-at2 .ensures) (c .before .before .before .turned .ensures) (digits (c .before)) _ (c .in-four .ensures)
@@ -82,23 +40,23 @@ pub short-digits-spec : {M : Type 1} → statement M
 short-digits-spec =
     tie.close
     (tie.spec
-    u32-at-requires
-    cast-turned
-    mul-turned
-    sub-u32-at
-    u32-at-requires-2
-    cast-turned-2
-    add-turned
-    turned-requires
-    beyond-requires
+    (λ c κs. search needs)
+    (λ c. search needs)
+    (λ c. search needs)
+    (λ c. search needs)
+    (λ c κs. search needs)
+    (λ c. search needs)
+    (λ c. search needs)
+    (λ c κs. search needs)
+    (λ c κs. search needs)
     returns
     in-four-requires
-    sub-s
-    mul-s
-    shl-low
-    shl-low-2
+    (λ c. search needs)
+    (λ c. search needs)
+    (λ c. search needs)
+    (λ c. search needs)
     sub-low
     add-low
-    add-result
+    (λ c. search needs)
     add-result-2
     returns-2)

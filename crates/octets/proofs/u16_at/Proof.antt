@@ -8,9 +8,6 @@ use Rattle.octets.proofs.Parts.{part-at-most, part-narrows}
 use Rattle.octets.proofs.u16_at.Statement.{statement}
 use Rattle.octets.proofs.u16_at.Tie as tie
 
-part-requires : tie.Need-part-requires
-part-requires c κs = search needs
-
 number-requires : tie.Need-number-requires
 number-requires c κs = let a = c .before .before .args in omega (arith, ap length (c .part .ensures), part-at-most (a .s .now) (a .at) 2)
 
@@ -21,4 +18,4 @@ returns : tie.Need-returns
 returns c = c .number .ensures .is ∙ ap numberOf (c .before .part .ensures)
 
 pub u16-at-spec : {M : Type 1} → statement M
-u16-at-spec = tie.close (tie.spec part-requires number-requires cast-result returns)
+u16-at-spec = tie.close (tie.spec (λ c κs. search needs) number-requires cast-result returns)

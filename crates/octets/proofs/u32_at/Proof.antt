@@ -8,26 +8,11 @@ use Rattle.octets.proofs.Parts.{part-at-most, part-narrows}
 use Rattle.octets.proofs.u32_at.Statement.{statement}
 use Rattle.octets.proofs.u32_at.Tie as tie
 
-sub-if2 : tie.Need-sub-if2
-sub-if2 c = search needs
-
-four-at-requires : tie.Need-four-at-requires
-four-at-requires c κs = search needs
-
-slice-aggregate-number : tie.Need-slice-aggregate-number
-slice-aggregate-number c = search needs
-
-number-requires : tie.Need-number-requires
-number-requires c κs = search needs
-
 cast-result : tie.Need-cast-result
 cast-result c = let a = c .before .before .before .before .before .before .args in omega (arith, part-narrows (a .s .now) _ (a .at) 4 _ (c .before .before .four-at .ensures) (c .number .ensures .fits))
 
 returns : tie.Need-returns
 returns c = c .number .ensures .is ∙ ap numberOf (c .before .before .four-at .ensures)
-
-part-requires : tie.Need-part-requires
-part-requires c κs = search needs
 
 number-requires-2 : tie.Need-number-requires-2
 number-requires-2 c κs = let a = c .before .before .before .args in omega (arith, ap length (c .part .ensures), part-at-most (a .s .now) (a .at) 4)
@@ -42,13 +27,13 @@ pub u32-at-spec : {M : Type 1} → statement M
 u32-at-spec =
     tie.close
     (tie.spec
-    sub-if2
-    four-at-requires
-    slice-aggregate-number
-    number-requires
+    (λ c. search needs)
+    (λ c κs. search needs)
+    (λ c. search needs)
+    (λ c κs. search needs)
     cast-result
     returns
-    part-requires
+    (λ c κs. search needs)
     number-requires-2
     cast-result-2
     returns-2)

@@ -11,19 +11,15 @@ use Rattle.octets.proofs.Unpacking.{unpacked-length, each-over}
 use Rattle.octets.proofs.unpack_at.Statement.{statement}
 use Rattle.octets.proofs.unpack_at.Tie as tie
 
-size : (c : tie.After-half-count) → c .half-count .result ≡ length (text (unpack (c .before .before .before .args .count) (c .before .before .before .args .s .now)))
+size : (c : tie.After-half-count)
+    → c .half-count .result ≡ length (text (unpack (c .before .before .before .args .count) (c .before .before .before .args .s .now)))
 size c = let a = c .before .before .before .args in c .half-count .ensures ∙ sym (unpacked-length (a .count) (a .s .now))
 
-room : (c : tie.Else1) → c .before .before .before .before .before .args .at + c .before .before .half-count .result ≤ length (c .before .before .before .before .before .args .buf .now)
+room : (c : tie.Else1)
+    → c .before .before .before .before .before .args .at + c .before .before .half-count .result ≤ length (c .before .before .before .before .before .args .buf .now)
 room c =
     let a = c .before .before .before .before .before .args in
     laid-room (a .at) (text (unpack (a .count) (a .s .now))) (a .buf .now) _ _ (size (c .before .before)) (c .before .fits2 .ensures) (not-false _ (c .if1 .left))
-
-half-count-requires : tie.Need-half-count-requires
-half-count-requires c κs = search needs
-
-fits-requires : tie.Need-fits-requires
-fits-requires c κs = search needs
 
 returns : tie.Need-returns
 returns c =
@@ -36,14 +32,8 @@ sub-unpack-text c = omega (arith, room c)
 part-unpack-text-start : tie.Need-part-unpack-text-start
 part-unpack-text-start c = let r = room c in search needs
 
-part-unpack-text-end : tie.Need-part-unpack-text-end
-part-unpack-text-end c = search needs
-
 unpack-text-requires : tie.Need-unpack-text-requires
 unpack-text-requires c κs = let r = room (c .before) in (simp (length-take, length-drop) (omega arith), omega arith)
-
-same-length : tie.Need-same-length
-same-length c = search needs
 
 returns-2 : tie.Need-returns-2
 unfolding text
@@ -56,12 +46,12 @@ pub unpack-at-spec : {M : Type 1} → statement M
 unpack-at-spec =
     tie.close
     (tie.spec
-    half-count-requires
-    fits-requires
+    (λ c κs. search needs)
+    (λ c κs. search needs)
     returns
     sub-unpack-text
     part-unpack-text-start
-    part-unpack-text-end
+    (λ c. search needs)
     unpack-text-requires
-    same-length
+    (λ c. search needs)
     returns-2)

@@ -5,14 +5,14 @@ use Prim.Native.Nat.{_*_, _-_, _≤_}
 use native.Mathlib.Omega.{arith}
 use lib.ListN.{getD, length-set}
 use Rattle.meaning.specs.Octets.{digitText, unpack, text}
-use Rattle.octets.specs.Parts.{Written}
-use Rattle.octets.proofs.Overs.{written-none, written-all}
+use Rattle.octets.specs.Parts.{Overlaid}
+use Rattle.octets.proofs.Overs.{overlaid-none, overlaid-all}
 use Rattle.octets.proofs.Unpacking.{unpacked-length, high-written, two-written, high-text}
 use Rattle.octets.proofs.unpack_text.Statement.{statement}
 use Rattle.octets.proofs.unpack_text.Tie as tie
 
 abbrev Inv-loop : tie.InvT-loop
-Inv-loop buf₀ s n pairs i₀ buf i = Written (text (unpack n s)) buf₀ buf (2 * i) × (i ≤ pairs)
+Inv-loop buf₀ s n pairs i₀ buf i = Overlaid (text (unpack n s)) buf₀ buf (2 * i) × (i ≤ pairs)
 
 abbrev μ-loop : tie.MeasureT-loop
 μ-loop buf₀ s n pairs i₀ buf i = pairs - i
@@ -20,37 +20,10 @@ abbrev μ-loop : tie.MeasureT-loop
 loop-holds : tie.Need-loop-holds Inv-loop μ-loop
 loop-holds c =
     let a = c .before .before .args in
-    (written-none _ _ (omega (arith, unpacked-length (a .n) (a .s .now))), omega arith)
-
-shared-slice-read-x : tie.Need-shared-slice-read-x Inv-loop μ-loop
-shared-slice-read-x c = search needs
-
-digit-text-requires : tie.Need-digit-text-requires Inv-loop μ-loop
-digit-text-requires c κs = search needs
-
-mul-buf : tie.Need-mul-buf Inv-loop μ-loop
-mul-buf c = search needs
-
-slice-write-buf : tie.Need-slice-write-buf Inv-loop μ-loop
-slice-write-buf c = search needs
-
-digit-text-requires-2 : tie.Need-digit-text-requires-2 Inv-loop μ-loop
-digit-text-requires-2 c κs = search needs
-
-mul-buf-2 : tie.Need-mul-buf-2 Inv-loop μ-loop
-mul-buf-2 c = search needs
-
-add-buf : tie.Need-add-buf Inv-loop μ-loop
-add-buf c = search needs
+    (overlaid-none _ _ (omega (arith, unpacked-length (a .n) (a .s .now))), omega arith)
 
 slice-write-buf-2 : tie.Need-slice-write-buf-2 Inv-loop μ-loop
 slice-write-buf-2 c = simp length-set (omega arith)
-
-add-i : tie.Need-add-i Inv-loop μ-loop
-add-i c = search needs
-
-loop-less : tie.Need-loop-less Inv-loop μ-loop
-loop-less c = search needs
 
 loop-again : tie.Need-loop-again Inv-loop μ-loop
 unfolding text
@@ -60,39 +33,18 @@ loop-again c =
     let octet = c .before .before .shared-slice-known2 .given (u .i) in
     (two-written digitText _ _ _ _ _ (u .inv .0) (omega arith) _ _ (omega arith) (c .before .digit-text .ensures ∙ high-text (getD (a .s .now) (u .i) 0) (omega (arith, octet))) (c .digit-text2 .ensures), omega arith)
 
-mul-if1 : tie.Need-mul-if1 Inv-loop μ-loop
-mul-if1 c = search needs
-
-shared-slice-read-digit-text : tie.Need-shared-slice-read-digit-text Inv-loop μ-loop
-shared-slice-read-digit-text c = search needs
-
-digit-text-requires-3 : tie.Need-digit-text-requires-3 Inv-loop μ-loop
-digit-text-requires-3 c κs = search needs
-
-mul-buf-3 : tie.Need-mul-buf-3 Inv-loop μ-loop
-mul-buf-3 c = search needs
-
-slice-write-buf-3 : tie.Need-slice-write-buf-3 Inv-loop μ-loop
-slice-write-buf-3 c = search needs
-
-same-length : tie.Need-same-length Inv-loop μ-loop
-same-length c = search needs
-
 returns : tie.Need-returns Inv-loop μ-loop
 unfolding text
 returns c =
     let u = c .before .before .before .before .loop in
     let a = c .before .before .before .before .before .before .before .args in
     let octet = c .before .shared-slice-known3 .given (u .i) in
-    written-all _ _ _ _ (high-written digitText _ _ _ _ _ (u .inv .0) (omega arith) _ (omega arith) (c .digit-text3 .ensures ∙ high-text (getD (a .s .now) (u .i) 0) (omega (arith, octet)))) (omega (arith, unpacked-length (a .n) (a .s .now)))
-
-same-length-2 : tie.Need-same-length-2 Inv-loop μ-loop
-same-length-2 c = search needs
+    overlaid-all _ _ _ _ (high-written digitText _ _ _ _ _ (u .inv .0) (omega arith) _ (omega arith) (c .digit-text3 .ensures ∙ high-text (getD (a .s .now) (u .i) 0) (omega (arith, octet)))) (omega (arith, unpacked-length (a .n) (a .s .now)))
 
 returns-2 : tie.Need-returns-2 Inv-loop μ-loop
 returns-2 c =
     let a = c .before .before .before .before .before .args in
-    written-all _ _ _ _ (c .before .before .loop .inv .0) (omega (arith, unpacked-length (a .n) (a .s .now)))
+    overlaid-all _ _ _ _ (c .before .before .loop .inv .0) (omega (arith, unpacked-length (a .n) (a .s .now)))
 
 pub unpack-text-spec : {M : Type 1} → statement M
 unpack-text-spec =
@@ -101,23 +53,23 @@ unpack-text-spec =
     Inv-loop
     μ-loop
     loop-holds
-    shared-slice-read-x
-    digit-text-requires
-    mul-buf
-    slice-write-buf
-    digit-text-requires-2
-    mul-buf-2
-    add-buf
+    (λ c. search needs)
+    (λ c κs. search needs)
+    (λ c. search needs)
+    (λ c. search needs)
+    (λ c κs. search needs)
+    (λ c. search needs)
+    (λ c. search needs)
     slice-write-buf-2
-    add-i
-    loop-less
+    (λ c. search needs)
+    (λ c. search needs)
     loop-again
-    mul-if1
-    shared-slice-read-digit-text
-    digit-text-requires-3
-    mul-buf-3
-    slice-write-buf-3
-    same-length
+    (λ c. search needs)
+    (λ c. search needs)
+    (λ c κs. search needs)
+    (λ c. search needs)
+    (λ c. search needs)
+    (λ c. search needs)
     returns
-    same-length-2
+    (λ c. search needs)
     returns-2)

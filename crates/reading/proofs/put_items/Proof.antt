@@ -30,12 +30,6 @@ stands k = step-attribute _ _ _ (k .before .before .before .step-at .ensures) _ 
 loop-holds : tie.Need-loop-holds Inv-loop μ-loop
 loop-holds c = passing-none _ _
 
-step-at-requires : tie.Need-step-at-requires Inv-loop μ-loop
-step-at-requires c κs = search needs
-
-enum-known-number : tie.Need-enum-known-number Inv-loop μ-loop
-enum-known-number c = search needs
-
 add-end : tie.Need-add-end Inv-loop μ-loop
 add-end c =
     let z = c .before .before .before .before .before .before .before .before .good in
@@ -46,19 +40,10 @@ put-names-requires c κs =
     let k = c .before .before in
     (number-low _ _ _ _ _ (stands k) (octets k), names-fit _ _ _ _ _ (stands k) (octets k) _ _ _ _ (k .before .before .before .before .loop .inv) (k .before .before .before .before .before .before .before .pre))
 
-sub-item-of : tie.Need-sub-item-of Inv-loop μ-loop
-sub-item-of c = search needs
-
-part-item-of-start : tie.Need-part-item-of-start Inv-loop μ-loop
-part-item-of-start c = search needs
-
 part-item-of-end : tie.Need-part-item-of-end Inv-loop μ-loop
 part-item-of-end c =
     let k = c .before .before .before .before .before in
     omega (arith, stands k .ends, stands k .inside)
-
-item-of-requires : tie.Need-item-of-requires Inv-loop μ-loop
-item-of-requires c κs = search needs
 
 put-item-requires : tie.Need-put-item-requires Inv-loop μ-loop
 put-item-requires c κs =
@@ -88,9 +73,6 @@ loop-again c =
     let k = c .before .before .before .before .before .before .before .before .before .before .before in
     passing-more _ _ _ _ _ (stands k) (octets k) _ (c .before .before .before .before .item-of .ensures) _ _ _ _ (k .before .before .before .before .loop .inv) (k .before .before .before .before .before .before .before .pre) _ (c .before .before .before .before .before .before .before .before .put-names .ensures) _ _ (c .before .before .put-item .ensures)
 
-enum-known-refusal : tie.Need-enum-known-refusal Inv-loop μ-loop
-enum-known-refusal c = search needs
-
 same-length : tie.Need-same-length Inv-loop μ-loop
 same-length c = c .before .before .before .before .loop .inv .held .kept
 
@@ -117,20 +99,20 @@ put-items-spec =
     Inv-loop
     μ-loop
     loop-holds
-    step-at-requires
-    enum-known-number
+    (λ c κs. search needs)
+    (λ c. search needs)
     add-end
     put-names-requires
-    sub-item-of
-    part-item-of-start
+    (λ c. search needs)
+    (λ c. search needs)
     part-item-of-end
-    item-of-requires
+    (λ c κs. search needs)
     put-item-requires
     add-written
     add-count
     loop-less
     loop-again
-    enum-known-refusal
+    (λ c. search needs)
     same-length
     returns
     enum-told

@@ -12,15 +12,6 @@ use Rattle.reading.proofs.put_part.Tie as tie
 slice-aggregate-pack-at : tie.Need-slice-aggregate-pack-at
 slice-aggregate-pack-at c = sym (length-take-le _ _ (c .before .before .before .before .before .pre .1 .0))
 
-pack-at-requires : tie.Need-pack-at-requires
-pack-at-requires c κs = search needs
-
-packed-len-requires : tie.Need-packed-len-requires
-packed-len-requires c κs = search needs
-
-same-length : tie.Need-same-length
-same-length c = search needs
-
 returns : tie.Need-returns
 returns c =
     let s = c .before .before .before .before .before .before .before .before .before in
@@ -35,31 +26,16 @@ put-qos-requires c κs =
     let long = length-take-le (s .args .len) (s .args .rest .now) (s .pre .1 .0) in
     (omega (arith, s .pre .0 (c .before .before .if2 .taken), long), qos-room _ _ _ _ (c .before .before .before .if1 .left) (c .before .before .if2 .taken) (s .pre .1 .1))
 
-same-length-2 : tie.Need-same-length-2
-same-length-2 c = search needs
-
 returns-2 : tie.Need-returns-2
 returns-2 c = put-as _ _ _ _ _ _ (part-6 _ _ (c .before .before .before .before .before .before .if1 .left) (c .before .before .before .before .before .if2 .taken)) (c .before .before .put-qos .ensures)
 
-copy-sixteen-requires : tie.Need-copy-sixteen-requires
-copy-sixteen-requires c κs = search needs
-
 slice-aggregate-copy-at : tie.Need-slice-aggregate-copy-at
 slice-aggregate-copy-at c = sym (length-take-le _ _ (c .before .before .before .before .before .before .before .pre .1 .0))
-
-copy-at-requires : tie.Need-copy-at-requires
-copy-at-requires c κs = search needs
-
-same-length-3 : tie.Need-same-length-3
-same-length-3 c = search needs
 
 returns-3 : tie.Need-returns-3
 returns-3 c =
     let s = c .before .before .before .before .before .before .before .before .before in
     short-put _ _ _ _ _ _ (part-plain _ _ (c .before .before .before .before .before .before .if1 .left) (c .before .before .before .before .before .if2 .left)) (s .pre .1 .0) (c .before .before .before .before .if3 .taken) (s .pre .1 .1) (c .before .before .copy-sixteen .ensures .holds)
-
-same-length-4 : tie.Need-same-length-4
-same-length-4 c = search needs
 
 returns-4 : tie.Need-returns-4
 returns-4 c =
@@ -71,18 +47,18 @@ put-part-spec =
     tie.close
     (tie.spec
     slice-aggregate-pack-at
-    pack-at-requires
-    packed-len-requires
-    same-length
+    (λ c κs. search needs)
+    (λ c κs. search needs)
+    (λ c. search needs)
     returns
     slice-aggregate-put-qos
     put-qos-requires
-    same-length-2
+    (λ c. search needs)
     returns-2
-    copy-sixteen-requires
+    (λ c κs. search needs)
     slice-aggregate-copy-at
-    copy-at-requires
-    same-length-3
+    (λ c κs. search needs)
+    (λ c. search needs)
     returns-3
-    same-length-4
+    (λ c. search needs)
     returns-4)

@@ -1,53 +1,57 @@
 -- `reading::read` meets its contract. Assumes nothing.
 use borrow.Author.Needs.{needs}
-use mathlib.Core.Path.{sym, _∙_}
+use mathlib.Core.Path.{_≡_, sym, _∙_}
+use native.Mathlib.Omega.{arith}
+use lib.ListN.{length}
+use Rattle.area.specs.declared.Arrival.the-variants.{Fit}
+use Rattle.area.specs.Answers.{arrivalOf}
 use Rattle.area.proofs.Arriving.{refused-first}
-use Rattle.reading.proofs.Whole.{refused-read}
+use Rattle.reading.proofs.Whole.{refused-read, arrived-short}
 use Rattle.reading.proofs.read.Statement.{statement}
 use Rattle.reading.proofs.read.Tie as tie
 
-arrive-requires : tie.Need-arrive-requires
-arrive-requires c κs = search needs
-
-enum-known-refusal : tie.Need-enum-known-refusal
-enum-known-refusal c = search needs
+-- nothing of 1 to 3 applies
+fit : (k : tie.After-enum-told) →
+    let a = k .before .before .before .before .before .args in
+    arrivalOf (a .kind) (a .flags) (length (a .area .now)) ≡ Fit
+fit k = sym (k .before .before .arrive .ensures) ∙ k .enum-told .given .1
 
 returns : tie.Need-returns
 returns c =
     refused-read _ _ _ _ _ (refused-first _ _ _ _ (c .before .before .before .arrive .ensures) _ (c .before .refusal .given .1))
 
-enum-told : tie.Need-enum-told
-enum-told c = search needs
+conclude-requires : tie.Need-conclude-requires
+conclude-requires c κs =
+    let p = c .before .before .before in
+    let i = p .before .before in
+    record { fit = fit (i .before); says = p .put-items .ensures; room = omega (arith, i .if1 .taken, p .put-items .kept .1 .0) }
 
-short-requires : tie.Need-short-requires
-short-requires c κs = (sym (c .before .before .before .before .arrive .ensures) ∙ c .before .before .enum-told .given .1, c .before .if1 .taken)
+put-items-requires-2 : tie.Need-put-items-requires-2
+put-items-requires-2 c κs = let k = c .before .before in omega (arith, arrived-short _ _ (k .before .before .before .before .before .args .area .now) (fit k))
 
-same-length : tie.Need-same-length
-same-length c = search needs
-
-returns-2 : tie.Need-returns-2
-returns-2 c = search needs
-
-long-requires : tie.Need-long-requires
-long-requires c κs = sym (c .before .before .before .before .arrive .ensures) ∙ c .before .before .enum-told .given .1
-
-same-length-2 : tie.Need-same-length-2
-same-length-2 c = search needs
-
-returns-3 : tie.Need-returns-3
-returns-3 c = search needs
+conclude-requires-2 : tie.Need-conclude-requires-2
+conclude-requires-2 c κs =
+    let p = c .before .before .before in
+    let k = p .before .before .before in
+    record { fit = fit k; says = p .put-items2 .ensures; room = omega (arith, arrived-short _ _ (k .before .before .before .before .before .args .area .now) (fit k), p .put-items2 .kept .1 .0) }
 
 pub read-spec : {M : Type 1} → statement M
 read-spec =
     tie.close
     (tie.spec
-    arrive-requires
-    enum-known-refusal
+    (λ c κs. search needs)
+    (λ c. search needs)
     returns
-    enum-told
-    short-requires
-    same-length
-    returns-2
-    long-requires
-    same-length-2
-    returns-3)
+    (λ c. search needs)
+    (λ c. search needs)
+    (λ c κs. search needs)
+    (λ c. search needs)
+    conclude-requires
+    (λ c. search needs)
+    (λ c. search needs)
+    (λ c. search needs)
+    put-items-requires-2
+    (λ c. search needs)
+    conclude-requires-2
+    (λ c. search needs)
+    (λ c. search needs))

@@ -17,8 +17,5 @@ digits-item-requires c κs =
     let most : c .if2 .digits-item ≡ cond long 15 6 = ⊎-elim (λ w. w .1 ∙ rw (w .0 .taken)) (λ w. w .1 ∙ rw (w .0 .left)) (c .if2 .came) in
     in-digits _ (s .pre) ∙ ap₂ digits (sym least) (sym most)
 
-returns : tie.Need-returns
-returns c = search needs
-
 pub any-digits-spec : {M : Type 1} → statement M
-any-digits-spec = tie.close (tie.spec digits-item-requires returns)
+any-digits-spec = tie.close (tie.spec digits-item-requires (λ c. search needs))

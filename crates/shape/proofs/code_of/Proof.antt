@@ -6,18 +6,12 @@ use Rattle.shape.proofs.Codes.{code-plain, code-3gpp}
 use Rattle.shape.proofs.code_of.Statement.{statement}
 use Rattle.shape.proofs.code_of.Tie as tie
 
-plain-code-requires : tie.Need-plain-code-requires
-plain-code-requires c κs = search needs
-
 returns : tie.Need-returns
 returns c = c .plain-code .ensures ∙ sym (code-plain _ (omega arith))
-
-gpp-code-requires : tie.Need-gpp-code-requires
-gpp-code-requires c κs = search needs
 
 returns-2 : tie.Need-returns-2
 returns-2 c = c .gpp-code .ensures ∙ sym (code-3gpp _ (omega arith))
 
 pub code-of-spec : {M : Type 1} → statement M
 code-of-spec =
-    tie.close (tie.spec plain-code-requires returns gpp-code-requires returns-2)
+    tie.close (tie.spec (λ c κs. search needs) returns (λ c κs. search needs) returns-2)

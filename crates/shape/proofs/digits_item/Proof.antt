@@ -8,23 +8,11 @@ use Rattle.shape.proofs.Items.{missed, digits-missed, item-digits}
 use Rattle.shape.proofs.digits_item.Statement.{statement}
 use Rattle.shape.proofs.digits_item.Tie as tie
 
-raw-item-requires : tie.Need-raw-item-requires
-raw-item-requires c κs = search needs
-
 returns : tie.Need-returns
 returns c = c .raw-item .ensures ∙ missed _ _ _ (digits _ _) (c .before .before .before .pre) (sym (digits-few _ _ _ (omega arith)))
 
-raw-item-requires-2 : tie.Need-raw-item-requires-2
-raw-item-requires-2 c κs = search needs
-
 returns-2 : tie.Need-returns-2
 returns-2 c = c .raw-item2 .ensures ∙ missed _ _ _ (digits _ _) (c .before .before .before .before .pre) (sym (digits-many _ _ _ (omega arith)))
-
-digits-of-requires : tie.Need-digits-of-requires
-digits-of-requires c κs = search needs
-
-raw-item-requires-3 : tie.Need-raw-item-requires-3
-raw-item-requires-3 c κs = search needs
 
 returns-3 : tie.Need-returns-3
 returns-3 c = c .raw-item3 .ensures ∙ digits-missed _ _ _ _ _ (c .before .before .before .before .before .before .before .pre) (omega arith) (omega arith) _ (c .before .before .before .digits-of .ensures) (c .before .if3 .taken)
@@ -36,11 +24,11 @@ pub digits-item-spec : {M : Type 1} → statement M
 digits-item-spec =
     tie.close
     (tie.spec
-    raw-item-requires
+    (λ c κs. search needs)
     returns
-    raw-item-requires-2
+    (λ c κs. search needs)
     returns-2
-    digits-of-requires
-    raw-item-requires-3
+    (λ c κs. search needs)
+    (λ c κs. search needs)
     returns-3
     returns-4)

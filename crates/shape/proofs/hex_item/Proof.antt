@@ -7,18 +7,9 @@ use Rattle.shape.proofs.Items.{missed, item-hexadecimal}
 use Rattle.shape.proofs.hex_item.Statement.{statement}
 use Rattle.shape.proofs.hex_item.Tie as tie
 
-meets-hex-requires : tie.Need-meets-hex-requires
-meets-hex-requires c κs = search needs
-
-raw-item-requires : tie.Need-raw-item-requires
-raw-item-requires c κs = search needs
-
 returns : tie.Need-returns
 unfolding meets
 returns c = c .raw-item .ensures ∙ missed _ _ _ hexadecimal (c .before .before .before .before .pre) (sym (c .before .before .meets-hex .ensures) ∙ not-true _ (c .before .if1 .taken))
-
-undigited-item-requires : tie.Need-undigited-item-requires
-undigited-item-requires c κs = search needs
 
 returns-2 : tie.Need-returns-2
 unfolding meets
@@ -27,4 +18,4 @@ returns-2 c = c .undigited-item .ensures ∙ item-hexadecimal _ _ _ (c .before .
 pub hex-item-spec : {M : Type 1} → statement M
 hex-item-spec =
     tie.close
-    (tie.spec meets-hex-requires raw-item-requires returns undigited-item-requires returns-2)
+    (tie.spec (λ c κs. search needs) (λ c κs. search needs) returns (λ c κs. search needs) returns-2)

@@ -38,9 +38,6 @@ octet-item-requires-3 : tie.Need-octet-item-requires-3
 unfolding codeOf
 octet-item-requires-3 c κs = (rw (in-form 11 _ (c .match .keys10)), refl)
 
-raw-item-requires : tie.Need-raw-item-requires
-raw-item-requires c κs = search needs
-
 any-digits-requires : tie.Need-any-digits-requires
 any-digits-requires c κs = ⊎-elim (λ w. digits-arm _ (w .keys5)) (λ w. digits-behind _ (w .0 .rest) (w .1 .left) (w .2 .taken)) (c .match .came)
 
@@ -90,7 +87,7 @@ item-of-spec =
     octet-item-requires
     octet-item-requires-2
     octet-item-requires-3
-    raw-item-requires
+    (λ c κs. search needs)
     any-digits-requires
     returns
     returns-2

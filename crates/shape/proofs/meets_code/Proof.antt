@@ -8,27 +8,6 @@ use Rattle.shape.proofs.Meeting.{one-digit}
 use Rattle.shape.proofs.meets_code.Statement.{statement}
 use Rattle.shape.proofs.meets_code.Tie as tie
 
-meets-blocks-requires : tie.Need-meets-blocks-requires
-meets-blocks-requires c κs = search needs
-
-meets-digits-requires : tie.Need-meets-digits-requires
-meets-digits-requires c κs = search needs
-
-meets-digits-requires-2 : tie.Need-meets-digits-requires-2
-meets-digits-requires-2 c κs = search needs
-
-meets-hex-requires : tie.Need-meets-hex-requires
-meets-hex-requires c κs = search needs
-
-meets-qos-requires : tie.Need-meets-qos-requires
-meets-qos-requires c κs = search needs
-
-meets-hex-requires-2 : tie.Need-meets-hex-requires-2
-meets-hex-requires-2 c κs = search needs
-
-meets-digits-requires-3 : tie.Need-meets-digits-requires-3
-meets-digits-requires-3 c κs = search needs
-
 returns : tie.Need-returns
 unfolding codeOf shapeBy meets
 returns c = rw (c .match .keys1)
@@ -89,13 +68,13 @@ pub meets-code-spec : {M : Type 1} → statement M
 meets-code-spec =
     tie.close
     (tie.spec
-    meets-blocks-requires
-    meets-digits-requires
-    meets-digits-requires-2
-    meets-hex-requires
-    meets-qos-requires
-    meets-hex-requires-2
-    meets-digits-requires-3
+    (λ c κs. search needs)
+    (λ c κs. search needs)
+    (λ c κs. search needs)
+    (λ c κs. search needs)
+    (λ c κs. search needs)
+    (λ c κs. search needs)
+    (λ c κs. search needs)
     returns
     returns-2
     returns-3

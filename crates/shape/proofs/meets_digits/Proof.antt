@@ -12,11 +12,8 @@ returns c = digits-few _ _ _ (omega arith)
 returns-2 : tie.Need-returns-2
 returns-2 c = digits-many _ _ _ (omega arith)
 
-all-digits-requires : tie.Need-all-digits-requires
-all-digits-requires c κs = search needs
-
 returns-3 : tie.Need-returns-3
 returns-3 c = c .all-digits .ensures ∙ digits-all _ _ _ (omega arith) (omega arith)
 
 pub meets-digits-spec : {M : Type 1} → statement M
-meets-digits-spec = tie.close (tie.spec returns returns-2 all-digits-requires returns-3)
+meets-digits-spec = tie.close (tie.spec returns returns-2 (λ c κs. search needs) returns-3)

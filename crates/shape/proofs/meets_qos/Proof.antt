@@ -5,15 +5,9 @@ use Rattle.meaning.specs.Shapes.{meets}
 use Rattle.shape.proofs.meets_qos.Statement.{statement}
 use Rattle.shape.proofs.meets_qos.Tie as tie
 
-meets-release-requires : tie.Need-meets-release-requires
-meets-release-requires c κs = search needs
-
 returns : tie.Need-returns
 unfolding meets
 returns c = let e = sym (c .before .meets-release .ensures) ∙ c .if1 .taken in rw e
-
-meets-release-requires-2 : tie.Need-meets-release-requires-2
-meets-release-requires-2 c κs = search needs
 
 returns-2 : tie.Need-returns-2
 unfolding meets
@@ -21,4 +15,4 @@ returns-2 c = let e = sym (c .before .before .meets-release .ensures) ∙ c .bef
 
 pub meets-qos-spec : {M : Type 1} → statement M
 meets-qos-spec =
-    tie.close (tie.spec meets-release-requires returns meets-release-requires-2 returns-2)
+    tie.close (tie.spec (λ c κs. search needs) returns (λ c κs. search needs) returns-2)

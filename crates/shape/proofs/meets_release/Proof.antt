@@ -6,35 +6,17 @@ use Rattle.shape.proofs.Meeting.{release-length, release-first, release
 use Rattle.shape.proofs.meets_release.Statement.{statement}
 use Rattle.shape.proofs.meets_release.Tie as tie
 
-add-if1 : tie.Need-add-if1
-add-if1 c = search needs
-
 returns : tie.Need-returns
 returns c = let a = c .before .before .args in release-length 57 (a .second) (a .count) (a .value .now) (c .if1 .taken)
-
-shared-slice-read-if2 : tie.Need-shared-slice-read-if2
-shared-slice-read-if2 c = search needs
 
 returns-2 : tie.Need-returns-2
 returns-2 c = let a = c .before .before .before .before .args in release-first 57 (a .second) (a .count) (a .value .now) (c .before .before .if1 .left) (c .if2 .taken)
 
-shared-slice-read-if3 : tie.Need-shared-slice-read-if3
-shared-slice-read-if3 c = search needs
-
 returns-3 : tie.Need-returns-3
 returns-3 c = let a = c .before .before .before .before .before .before .args in release-second 57 (a .second) (a .count) (a .value .now) (c .before .before .before .before .if1 .left) (c .if3 .taken)
 
-shared-slice-read-if4 : tie.Need-shared-slice-read-if4
-shared-slice-read-if4 c = search needs
-
 returns-4 : tie.Need-returns-4
 returns-4 c = let a = c .before .before .before .before .before .before .before .before .args in release-dash 57 (a .second) (a .count) (a .value .now) (c .before .before .before .before .before .before .if1 .left) (c .if4 .taken)
-
-part-requires : tie.Need-part-requires
-part-requires c κs = search needs
-
-all-hex-requires : tie.Need-all-hex-requires
-all-hex-requires c κs = search needs
 
 returns-5 : tie.Need-returns-5
 returns-5 c =
@@ -46,14 +28,14 @@ pub meets-release-spec : {M : Type 1} → statement M
 meets-release-spec =
     tie.close
     (tie.spec
-    add-if1
+    (λ c. search needs)
     returns
-    shared-slice-read-if2
+    (λ c. search needs)
     returns-2
-    shared-slice-read-if3
+    (λ c. search needs)
     returns-3
-    shared-slice-read-if4
+    (λ c. search needs)
     returns-4
-    part-requires
-    all-hex-requires
+    (λ c κs. search needs)
+    (λ c κs. search needs)
     returns-5)

@@ -7,12 +7,6 @@ use Rattle.shape.proofs.Items.{octet-missed, octet-there, item-octet}
 use Rattle.shape.proofs.octet_item.Statement.{statement}
 use Rattle.shape.proofs.octet_item.Tie as tie
 
-meets-code-requires : tie.Need-meets-code-requires
-meets-code-requires c κs = search needs
-
-raw-item-requires : tie.Need-raw-item-requires
-raw-item-requires c κs = search needs
-
 returns : tie.Need-returns
 returns c = let k = c .before .before .before .before in c .raw-item .ensures ∙ octet-missed _ _ _ _ (k .pre .0) (k .pre .1) (sym (c .before .before .meets-code .ensures) ∙ not-true _ (c .before .if1 .taken))
 
@@ -20,12 +14,6 @@ shared-slice-read-octet-of : tie.Need-shared-slice-read-octet-of
 shared-slice-read-octet-of c =
     let k = c .before .before .before .before in
     omega (arith, octet-there (k .args .number) _ (k .args .value) _ (k .pre .0) (k .pre .1) (sym (c .before .before .meets-code .ensures) ∙ not-false _ (c .before .if1 .left)))
-
-octet-of-requires : tie.Need-octet-of-requires
-octet-of-requires c κs = search needs
-
-undigited-item-requires : tie.Need-undigited-item-requires
-undigited-item-requires c κs = search needs
 
 returns-2 : tie.Need-returns-2
 returns-2 c =
@@ -36,10 +24,10 @@ pub octet-item-spec : {M : Type 1} → statement M
 octet-item-spec =
     tie.close
     (tie.spec
-    meets-code-requires
-    raw-item-requires
+    (λ c κs. search needs)
+    (λ c κs. search needs)
     returns
     shared-slice-read-octet-of
-    octet-of-requires
-    undigited-item-requires
+    (λ c κs. search needs)
+    (λ c κs. search needs)
     returns-2)

@@ -1,21 +1,35 @@
--- Refusal 25, or the area. Assumes nothing.
+-- The refusal that was judged, 25, or the area. Assumes nothing.
+use mathlib.Core.Path.{sym}
+use Rattle.writing.proofs.Whole.{over-refused, made-long, over-not, over-laid}
 use borrow.Author.Needs.{needs}
-use native.Mathlib.Omega.{arith}
-use Rattle.writing.proofs.Whole.{handed-not, handed-over}
 use Rattle.writing.proofs.hand_over.Statement.{statement}
 use Rattle.writing.proofs.hand_over.Tie as tie
 
 returns : tie.Need-returns
-returns c = handed-not _ _ _ _ (c .if1 .taken)
-
-copy-at-requires : tie.Need-copy-at-requires
-copy-at-requires c κs = search needs
-
-same-length : tie.Need-same-length
-same-length c = search needs
+returns c = over-refused _ _ _ _ (c .before .said .given .1)
 
 returns-2 : tie.Need-returns-2
-returns-2 c = handed-over _ _ _ _ _ (omega (arith, c .before .before .before .before .if1 .left)) (c .before .before .copy-at .ensures .holds)
+returns-2 c = let k = c .before .before in over-not _ _ _ _ _ _ (k .said2 .given .1) (k .before .before .before .before .pre) (c .if1 .taken)
+
+slice-aggregate-copy-at : tie.Need-slice-aggregate-copy-at
+slice-aggregate-copy-at c =
+    let k = c .before .before .before .before in
+    sym (made-long _ _ (k .before .before .before .before .args .area .now) _ _ _ (k .said2 .given .1) (k .before .before .before .before .pre))
+
+returns-3 : tie.Need-returns-3
+returns-3 c =
+    let k = c .before .before .before .before .before .before .before in
+    over-laid _ _ _ _ _ _ (k .said2 .given .1) (k .before .before .before .before .pre) _ (c .before .before .before .before .before .if1 .left) (c .before .before .copy-at .ensures .holds)
 
 pub hand-over-spec : {M : Type 1} → statement M
-hand-over-spec = tie.close (tie.spec returns copy-at-requires same-length returns-2)
+hand-over-spec =
+    tie.close
+    (tie.spec
+    (λ c. search needs)
+    returns
+    (λ c. search needs)
+    returns-2
+    slice-aggregate-copy-at
+    (λ c κs. search needs)
+    (λ c. search needs)
+    returns-3)

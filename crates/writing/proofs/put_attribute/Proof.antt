@@ -45,14 +45,9 @@ valued : (k : tie.After-put-value) →
     Laying (a .at + headLength (a .number)) (standsAs (a .number) (a .form) (a .count) st) (valueAs (a .number) (a .form) (a .count) st) (k .before .before .before .before .put-front .last .0) (k .put-value .result) (k .put-value .last .0))
 valued k = rw (head (headed k)) at (k .put-value .ensures)
 
-short : (k : tie.After-put-value) → (k .put-value .result ≡ 256 → ⊥) → headLength (start (headed k) .args .number) + k .put-value .result < 256
+short : (k : tie.After-put-value) → (k .put-value .result ≡ 256 → ⊥)
+    → headLength (start (headed k) .args .number) + k .put-value .result < 256
 short k h = put-short _ _ _ _ (octets (headed k)) (long (start (headed k))) _ _ _ _ (valued k) h
-
-code-of-requires : tie.Need-code-of-requires
-code-of-requires c κs = search needs
-
-head-len-requires : tie.Need-head-len-requires
-head-len-requires c κs = search needs
 
 put-front-requires : tie.Need-put-front-requires
 put-front-requires c κs = let s = start (c .before) in (s .pre .0, omega (arith, s .pre .1 .1 .1, head-eight (s .args .number)))
@@ -65,9 +60,6 @@ put-value-requires c κs = let k = c .before .before .before .before .before in
     let p = start k .pre in
     (k .before .code-of .ensures, (p .1 .0, (p .1 .1 .0, omega (arith, p .1 .1 .1, head-low k, c .before .before .before .put-front .kept .0))))
 
-same-length : tie.Need-same-length
-same-length c = search needs
-
 returns : tie.Need-returns
 returns c = let k = c .before .before .before in attributed-none _ _ _ _ (octets (headed k)) (long (start (headed k))) _ _ _ _ (valued k) (c .if1 .taken) _ _
 
@@ -79,9 +71,6 @@ put-lengths-requires c κs = let k = c .before .before .before .before in
 add-result : tie.Need-add-result
 add-result c = let k = c .before .before .before .before .before .before .before in omega (arith, head (headed k), short k (c .before .before .before .before .if1 .left))
 
-same-length-2 : tie.Need-same-length-2
-same-length-2 c = search needs
-
 returns-2 : tie.Need-returns-2
 returns-2 c = let k = c .before .before .before .before .before .before .before in
     let e = head (headed k) in
@@ -91,14 +80,14 @@ pub put-attribute-spec : {M : Type 1} → statement M
 put-attribute-spec =
     tie.close
     (tie.spec
-    code-of-requires
-    head-len-requires
+    (λ c κs. search needs)
+    (λ c κs. search needs)
     put-front-requires
     add-put-value
     put-value-requires
-    same-length
+    (λ c. search needs)
     returns
     put-lengths-requires
     add-result
-    same-length-2
+    (λ c. search needs)
     returns-2)

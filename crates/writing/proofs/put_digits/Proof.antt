@@ -34,42 +34,15 @@ returns c = digits-none _ _ _ _ _ (decided-not _ _ _ (c .before .before .before 
 add-buf : tie.Need-add-buf Inv-loop μ-loop
 add-buf c = omega (arith, c .before .shared-slice-known .given (c .before .before .before .loop .i))
 
-mul-buf : tie.Need-mul-buf Inv-loop μ-loop
-mul-buf c = search needs
-
-add-buf-2 : tie.Need-add-buf-2 Inv-loop μ-loop
-add-buf-2 c = search needs
-
 slice-write-buf : tie.Need-slice-write-buf Inv-loop μ-loop
 slice-write-buf c = omega (arith, c .before .before .before .loop .inv .1 .kept, c .before .before .before .before .pre .1)
-
-add-buf-3 : tie.Need-add-buf-3 Inv-loop μ-loop
-add-buf-3 c = search needs
-
-mul-buf-2 : tie.Need-mul-buf-2 Inv-loop μ-loop
-mul-buf-2 c = search needs
-
-add-buf-4 : tie.Need-add-buf-4 Inv-loop μ-loop
-add-buf-4 c = search needs
-
-add-buf-5 : tie.Need-add-buf-5 Inv-loop μ-loop
-add-buf-5 c = search needs
 
 slice-write-buf-2 : tie.Need-slice-write-buf-2 Inv-loop μ-loop
 slice-write-buf-2 c = simp length-set (omega (arith, c .before .before .before .loop .inv .1 .kept, c .before .before .before .before .pre .1))
 
-add-i : tie.Need-add-i Inv-loop μ-loop
-add-i c = search needs
-
-loop-less : tie.Need-loop-less Inv-loop μ-loop
-loop-less c = search needs
-
 loop-again : tie.Need-loop-again Inv-loop μ-loop
 loop-again c = let u = c .before .before .before .loop in
     (decided-more _ _ _ (u .inv .0) (omega arith) (not-false _ (c .if1 .left)), digits-two _ _ _ _ _ _ (u .inv .1) (omega (arith, c .before .before .before .before .pre .0)) (omega arith))
-
-mul-if2 : tie.Need-mul-if2 Inv-loop μ-loop
-mul-if2 c = search needs
 
 shared-slice-read-x-2 : tie.Need-shared-slice-read-x-2 Inv-loop μ-loop
 shared-slice-read-x-2 c = omega (arith, c .before .before .before .before .pre .0)
@@ -82,12 +55,6 @@ returns-2 c = let u = c .before .before .before .before .loop in digits-none _ _
 
 add-buf-6 : tie.Need-add-buf-6 Inv-loop μ-loop
 add-buf-6 c = omega (arith, c .before .shared-slice-known2 .given (c .before .before .before .before .loop .i))
-
-mul-buf-3 : tie.Need-mul-buf-3 Inv-loop μ-loop
-mul-buf-3 c = search needs
-
-add-buf-7 : tie.Need-add-buf-7 Inv-loop μ-loop
-add-buf-7 c = search needs
 
 slice-write-buf-3 : tie.Need-slice-write-buf-3 Inv-loop μ-loop
 slice-write-buf-3 c = omega (arith, c .before .before .before .before .loop .inv .1 .kept, c .before .before .before .before .before .pre .1)
@@ -117,24 +84,24 @@ put-digits-spec =
     same-length
     returns
     add-buf
-    mul-buf
-    add-buf-2
+    (λ c. search needs)
+    (λ c. search needs)
     slice-write-buf
-    add-buf-3
-    mul-buf-2
-    add-buf-4
-    add-buf-5
+    (λ c. search needs)
+    (λ c. search needs)
+    (λ c. search needs)
+    (λ c. search needs)
     slice-write-buf-2
-    add-i
-    loop-less
+    (λ c. search needs)
+    (λ c. search needs)
     loop-again
-    mul-if2
+    (λ c. search needs)
     shared-slice-read-x-2
     same-length-2
     returns-2
     add-buf-6
-    mul-buf-3
-    add-buf-7
+    (λ c. search needs)
+    (λ c. search needs)
     slice-write-buf-3
     same-length-3
     returns-3

@@ -12,24 +12,6 @@ returns c = let a = c .before .before .before .args in laying-none _ _ _ _ _ (rw
 returns-2 : tie.Need-returns-2
 returns-2 c = let a = c .before .before .before .before .args in laying-none _ _ _ _ _ (rw (ne-eqb _ 4 (c .if2 .taken)) (and-false (a .own)))
 
-shared-slice-read-t11 : tie.Need-shared-slice-read-t11
-shared-slice-read-t11 c = search needs
-
-shared-slice-read-t13 : tie.Need-shared-slice-read-t13
-shared-slice-read-t13 c = search needs
-
-shared-slice-read-t15 : tie.Need-shared-slice-read-t15
-shared-slice-read-t15 c = search needs
-
-shared-slice-read-t17 : tie.Need-shared-slice-read-t17
-shared-slice-read-t17 c = search needs
-
-put-four-requires : tie.Need-put-four-requires
-put-four-requires c κs = search needs
-
-same-length : tie.Need-same-length
-same-length c = search needs
-
 returns-3 : tie.Need-returns-3
 returns-3 c = let s = c .before .before .before .before .before .before .before .before .before .before .before .before in fours-laid _ (s .args .own) _ _ _ (not-false _ (c .before .before .before .before .before .before .before .before .before .if1 .left)) (c .before .before .before .before .before .before .before .before .if2 .left) (s .pre) (c .before .before .put-four .ensures)
 
@@ -39,10 +21,10 @@ put-fours-spec =
     (tie.spec
     returns
     returns-2
-    shared-slice-read-t11
-    shared-slice-read-t13
-    shared-slice-read-t15
-    shared-slice-read-t17
-    put-four-requires
-    same-length
+    (λ c. search needs)
+    (λ c. search needs)
+    (λ c. search needs)
+    (λ c. search needs)
+    (λ c κs. search needs)
+    (λ c. search needs)
     returns-3)

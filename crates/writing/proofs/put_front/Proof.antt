@@ -8,14 +8,8 @@ use Rattle.writing.proofs.Putting.{head-two, plain-front, gpp-front}
 use Rattle.writing.proofs.put_front.Statement.{statement}
 use Rattle.writing.proofs.put_front.Tie as tie
 
-cast-buf : tie.Need-cast-buf
-cast-buf c = search needs
-
 slice-write-buf : tie.Need-slice-write-buf
 slice-write-buf c = omega (arith, c .before .before .pre .1, head-two (c .before .before .args .number))
-
-same-length : tie.Need-same-length
-same-length c = search needs
 
 returns : tie.Need-returns
 returns c = plain-front _ _ _ (c .if1 .taken) (c .before .before .pre .1)
@@ -23,18 +17,9 @@ returns c = plain-front _ _ _ (c .if1 .taken) (c .before .before .pre .1)
 put-four-requires : tie.Need-put-four-requires
 put-four-requires c κs = omega (arith, c .before .before .before .pre .1, gpp-head-length (c .before .before .before .args .number) (c .before .if1 .left))
 
-add-put-four : tie.Need-add-put-four
-add-put-four c = search needs
-
-cast-t15 : tie.Need-cast-t15
-cast-t15 c = search needs
-
 put-four-requires-2 : tie.Need-put-four-requires-2
 put-four-requires-2 c κs = let s = c .before .before .before .before .before .before .before in
     omega (arith, laid-keeps _ _ _ _ (s .args .at + 8) (c .before .before .before .put-four .ensures) (omega (arith, s .pre .1, gpp-head-length (s .args .number) (c .before .before .before .before .before .if1 .left))))
-
-same-length-2 : tie.Need-same-length-2
-same-length-2 c = search needs
 
 returns-2 : tie.Need-returns-2
 returns-2 c = let s = c .before .before .before .before .before .before .before .before .before .before in
@@ -45,13 +30,13 @@ pub put-front-spec : {M : Type 1} → statement M
 put-front-spec =
     tie.close
     (tie.spec
-    cast-buf
+    (λ c. search needs)
     slice-write-buf
-    same-length
+    (λ c. search needs)
     returns
     put-four-requires
-    add-put-four
-    cast-t15
+    (λ c. search needs)
+    (λ c. search needs)
     put-four-requires-2
-    same-length-2
+    (λ c. search needs)
     returns-2)

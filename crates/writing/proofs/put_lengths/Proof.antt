@@ -7,9 +7,6 @@ use Rattle.writing.specs.Attributes.{lengthsAt}
 use Rattle.writing.proofs.put_lengths.Statement.{statement}
 use Rattle.writing.proofs.put_lengths.Tie as tie
 
-add-buf : tie.Need-add-buf
-add-buf c = search needs
-
 cast-buf : tie.Need-cast-buf
 cast-buf c = omega (arith, c .pre .0, c .pre .1 .0)
 
@@ -34,9 +31,6 @@ add-buf-4 c = omega (arith, c .pre .0, c .pre .1 .1, c .good)
 slice-write-buf-2 : tie.Need-slice-write-buf-2
 slice-write-buf-2 c = simp length-set (omega (arith, c .pre .0, c .pre .1 .1))
 
-same-length : tie.Need-same-length
-same-length c = search needs
-
 returns : tie.Need-returns
 unfolding lengthsAt
 returns c = refl
@@ -45,7 +39,7 @@ pub put-lengths-spec : {M : Type 1} → statement M
 put-lengths-spec =
     tie.close
     (tie.spec
-    add-buf
+    (λ c. search needs)
     cast-buf
     add-buf-2
     sub-buf
@@ -54,5 +48,5 @@ put-lengths-spec =
     cast-buf-2
     add-buf-4
     slice-write-buf-2
-    same-length
+    (λ c. search needs)
     returns)

@@ -6,29 +6,14 @@ use Rattle.writing.proofs.Valuing.{digits-not-taken, digits-not-packed,
 use Rattle.writing.proofs.put_packed.Statement.{statement}
 use Rattle.writing.proofs.put_packed.Tie as tie
 
-wide-requires : tie.Need-wide-requires
-wide-requires c κs = search needs
-
-takes-digits-requires : tie.Need-takes-digits-requires
-takes-digits-requires c κs = search needs
-
 returns : tie.Need-returns
 returns c = let l = c .before .before .before .before .before .args .stored .now in
     digits-not-taken _ _ _ l _ (c .before .before .before .before .before .pre .0) (slice-octets l (c .before .before .before .shared-slice-known .given)) _ (c .before .takes-digits .ensures) (not-true _ (c .if1 .taken)) _
-
-put-digits-requires : tie.Need-put-digits-requires
-put-digits-requires c κs = search needs
-
-same-length : tie.Need-same-length
-same-length c = search needs
 
 returns-2 : tie.Need-returns-2
 returns-2 c = let k = c .before .before .before .before in
     let l = c .before .before .before .before .before .before .before .before .before .before .args .stored .now in
     digits-not-packed _ _ _ l _ (c .before .before .before .before .before .before .before .before .before .before .pre .0) (slice-octets l (c .before .before .before .before .before .before .before .before .shared-slice-known .given)) _ (k .before .before .takes-digits .ensures) (not-false _ (k .before .if1 .left)) _ _ (rw (k .before .before .before .wide .ensures) at (c .before .before .before .put-digits .ensures)) (not-true _ (c .if2 .taken))
-
-same-length-2 : tie.Need-same-length-2
-same-length-2 c = search needs
 
 returns-3 : tie.Need-returns-3
 returns-3 c = let k = c .before .before .before .before in
@@ -39,11 +24,11 @@ pub put-packed-spec : {M : Type 1} → statement M
 put-packed-spec =
     tie.close
     (tie.spec
-    wide-requires
-    takes-digits-requires
+    (λ c κs. search needs)
+    (λ c κs. search needs)
     returns
-    put-digits-requires
-    same-length
+    (λ c κs. search needs)
+    (λ c. search needs)
     returns-2
-    same-length-2
+    (λ c. search needs)
     returns-3)

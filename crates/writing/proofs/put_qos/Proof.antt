@@ -18,9 +18,6 @@ held k =
 returns : tie.Need-returns
 returns c = profile-other _ _ _ _ (c .if1 .taken) _
 
-holds-qos-requires : tie.Need-holds-qos-requires
-holds-qos-requires c κs = search needs
-
 returns-2 : tie.Need-returns-2
 returns-2 c = profile-none _ _ _ _ (sym (c .before .holds-qos .ensures) ∙ not-true _ (c .if2 .taken)) _
 
@@ -33,9 +30,6 @@ mul-result c = omega (arith, held (c .before .before .before) .few)
 add-result : tie.Need-add-result
 add-result c = omega (arith, held (c .before .before .before) .few)
 
-same-length : tie.Need-same-length
-same-length c = search needs
-
 returns-3 : tie.Need-returns-3
 returns-3 c = let k = c .before .before .before in
     let l = k .before .before .before .before .before .before .args .stored .now in
@@ -46,10 +40,10 @@ put-qos-spec =
     tie.close
     (tie.spec
     returns
-    holds-qos-requires
+    (λ c κs. search needs)
     returns-2
     put-profile-requires
     mul-result
     add-result
-    same-length
+    (λ c. search needs)
     returns-3)

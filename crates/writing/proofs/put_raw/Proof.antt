@@ -10,30 +10,15 @@ use Rattle.writing.proofs.put_raw.Tie as tie
 slice-aggregate-is-raw : tie.Need-slice-aggregate-is-raw
 slice-aggregate-is-raw c = sym (length-take-le _ _ (c .before .before .before .pre .0))
 
-is-raw-requires : tie.Need-is-raw-requires
-is-raw-requires c κs = search needs
-
 returns : tie.Need-returns
 returns c = laying-none _ _ _ _ _ (sym (c .before .is-raw .ensures) ∙ not-true _ (c .if1 .taken))
-
-copy-sixteen-requires : tie.Need-copy-sixteen-requires
-copy-sixteen-requires c κs = search needs
 
 slice-aggregate-copy-at : tie.Need-slice-aggregate-copy-at
 slice-aggregate-copy-at c = sym (length-take-le _ _ (c .before .before .before .before .before .before .before .before .pre .0))
 
-copy-at-requires : tie.Need-copy-at-requires
-copy-at-requires c κs = search needs
-
-same-length : tie.Need-same-length
-same-length c = search needs
-
 returns-2 : tie.Need-returns-2
 returns-2 c = let p = c .before .before .before .before .before .before .before .before .before .before .pre in
     raw-sixteen _ _ _ _ _ _ _ _ (p .0) (p .1) (sym (c .before .before .before .before .before .before .is-raw .ensures) ∙ not-false _ (c .before .before .before .before .before .if1 .left)) (c .before .before .before .before .if2 .taken) (c .before .before .copy-sixteen .ensures .holds)
-
-same-length-2 : tie.Need-same-length-2
-same-length-2 c = search needs
 
 returns-3 : tie.Need-returns-3
 returns-3 c = let p = c .before .before .before .before .before .before .before .before .before .before .before .pre in
@@ -44,12 +29,12 @@ put-raw-spec =
     tie.close
     (tie.spec
     slice-aggregate-is-raw
-    is-raw-requires
+    (λ c κs. search needs)
     returns
-    copy-sixteen-requires
+    (λ c κs. search needs)
     slice-aggregate-copy-at
-    copy-at-requires
-    same-length
+    (λ c κs. search needs)
+    (λ c. search needs)
     returns-2
-    same-length-2
+    (λ c. search needs)
     returns-3)

@@ -32,12 +32,6 @@ octets k = let a = k .before .before .before .args in octets-take (a .size) (a .
 slice-aggregate-stored : tie.Need-slice-aggregate-stored
 slice-aggregate-stored c = sym (length-take-le _ _ (c .before .before .before .pre .1 .1 .0))
 
-put-fours-requires : tie.Need-put-fours-requires
-put-fours-requires c κs = search needs
-
-put-fours-requires-2 : tie.Need-put-fours-requires-2
-put-fours-requires-2 c κs = search needs
-
 put-packed-requires : tie.Need-put-packed-requires
 put-packed-requires c κs = (rw (c .before .match .keys3) at (long (c .before .before)), c .before .before .before .before .before .pre .1 .1 .1)
 
@@ -45,15 +39,6 @@ returns : tie.Need-returns
 returns c = let k = c .before .before in
     let m = c .before .match .keys4 in
     rw m (text-none _ _ _ (is k) _ _ _ (rw m at (long k)) (octets k) (rw (rw m at (size k)) at (c .if1 .taken)) _)
-
-unpack-at-requires : tie.Need-unpack-at-requires
-unpack-at-requires c κs = search needs
-
-put-qos-requires : tie.Need-put-qos-requires
-put-qos-requires c κs = search needs
-
-is-octet-requires : tie.Need-is-octet-requires
-is-octet-requires c κs = search needs
 
 returns-2 : tie.Need-returns-2
 returns-2 c = let k = c .before .before .before in
@@ -63,63 +48,33 @@ returns-2 c = let k = c .before .before .before in
 shared-slice-read-octet-text : tie.Need-shared-slice-read-octet-text
 shared-slice-read-octet-text c = omega (arith, octet-some _ _ _ (sym (c .before .before .is-octet .ensures) ∙ not-false _ (c .before .if2 .left)))
 
-octet-text-requires : tie.Need-octet-text-requires
-octet-text-requires c κs = search needs
-
-slice-write-buf : tie.Need-slice-write-buf
-slice-write-buf c = search needs
-
-put-raw-requires : tie.Need-put-raw-requires
-put-raw-requires c κs = search needs
-
-same-length : tie.Need-same-length
-same-length c = search needs
-
 returns-3 : tie.Need-returns-3
 returns-3 c = let k = c .before .before .before .before .before in
     let m = c .before .before .before .before .match .keys1 in
     rw m (number-valued _ _ _ (is k) _ _ _ (rw m at (long k)) _ _ (c .before .before .put-fours .ensures))
-
-same-length-2 : tie.Need-same-length-2
-same-length-2 c = search needs
 
 returns-4 : tie.Need-returns-4
 returns-4 c = let k = c .before .before .before .before .before in
     let m = c .before .before .before .before .match .keys2 in
     rw m (address-valued _ _ _ (is k) _ _ _ (rw m at (long k)) _ _ (c .before .before .put-fours2 .ensures))
 
-same-length-3 : tie.Need-same-length-3
-same-length-3 c = search needs
-
 returns-5 : tie.Need-returns-5
 returns-5 c = rw (c .before .before .before .before .match .keys3) (digits-valued _ _ _ (is (c .before .before .before .before .before)) _ _ _ _ _ (c .before .before .put-packed .ensures))
-
-same-length-4 : tie.Need-same-length-4
-same-length-4 c = search needs
 
 returns-6 : tie.Need-returns-6
 returns-6 c = let k = c .before .before .before .before .before .before in
     let m = c .before .before .before .before .before .match .keys4 in
     rw m (text-valued _ _ _ (is k) _ _ _ (rw m at (long k)) (octets k) (rw (rw m at (size k)) at (c .before .before .before .before .if1 .left)) _ (omega (arith, k .before .before .before .pre .1 .1 .1)) (c .before .before .unpack-at .ensures .holds))
 
-same-length-5 : tie.Need-same-length-5
-same-length-5 c = search needs
-
 returns-7 : tie.Need-returns-7
 returns-7 c = let k = c .before .before .before .before .before in
     let m = c .before .before .before .before .match .keys5 in
     rw m (profile-valued _ _ _ (is k) _ _ _ (rw m at (long k)) _ _ (c .before .before .put-qos .ensures))
 
-same-length-6 : tie.Need-same-length-6
-same-length-6 c = search needs
-
 returns-8 : tie.Need-returns-8
 returns-8 c = let k = c .before .before .before .before .before in
     let m = c .before .before .before .before .match .keys6 in
     rw m (octet-valued _ _ _ (is k) _ _ _ (rw m at (long k)) (sym (c .before .before .before .is-octet .ensures) ∙ not-false _ (c .before .before .if2 .left)) _ (c .octet-text .ensures) (omega (arith, k .before .before .before .pre .1 .1 .1)))
-
-same-length-7 : tie.Need-same-length-7
-same-length-7 c = search needs
 
 returns-9 : tie.Need-returns-9
 returns-9 c = raw-valued _ _ _ (is (c .before .before .before .before .before)) _ _ _ _ (c .before .before .before .before .match .rest) _ _ (c .before .before .put-raw .ensures)
@@ -129,29 +84,29 @@ put-value-spec =
     tie.close
     (tie.spec
     slice-aggregate-stored
-    put-fours-requires
-    put-fours-requires-2
+    (λ c κs. search needs)
+    (λ c κs. search needs)
     put-packed-requires
     returns
-    unpack-at-requires
-    put-qos-requires
-    is-octet-requires
+    (λ c κs. search needs)
+    (λ c κs. search needs)
+    (λ c κs. search needs)
     returns-2
     shared-slice-read-octet-text
-    octet-text-requires
-    slice-write-buf
-    put-raw-requires
-    same-length
+    (λ c κs. search needs)
+    (λ c. search needs)
+    (λ c κs. search needs)
+    (λ c. search needs)
     returns-3
-    same-length-2
+    (λ c. search needs)
     returns-4
-    same-length-3
+    (λ c. search needs)
     returns-5
-    same-length-4
+    (λ c. search needs)
     returns-6
-    same-length-5
+    (λ c. search needs)
     returns-7
-    same-length-6
+    (λ c. search needs)
     returns-8
-    same-length-7
+    (λ c. search needs)
     returns-9)

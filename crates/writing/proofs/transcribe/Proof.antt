@@ -10,7 +10,7 @@ use Rattle.item.specs.Answers.{headedAt}
 use Rattle.item.specs.declared.Headed.the-variants.{Item}
 use Rattle.writing.specs.Attributes.{Attributed}
 use Rattle.writing.proofs.Entries.{stored-here, size-is, size-within, behind-head, behind-within, carried-low, attributed-here}
-use Rattle.writing.proofs.Transcribing.{Transcribing, transcribing-none, transcribing-refused, transcribing-23, put-short, transcribing-more, transcribing-remains, transcribing-done}
+use Rattle.writing.proofs.Transcribing.{Transcribing, transcribing-none, transcribing-refused, transcribing-23, put-short, transcribing-more, transcribing-ended}
 use Rattle.writing.proofs.transcribe.Statement.{statement}
 use Rattle.writing.proofs.transcribe.Tie as tie
 
@@ -21,29 +21,37 @@ abbrev μ-loop : tie.MeasureT-loop
 μ-loop sheet buf₀ last left₀ place₀ written₀ buf left place written = left
 
 -- what is known of a turn whose head is that of an item: the invariant, that items are left, that the sheet holds octets
-inv : (k : tie.After-known-told Inv-loop μ-loop) → Transcribing (k .before .before .before .before .before .before .before .before .before .args .sheet .now) (k .before .before .before .before .before .loop .buf) (k .before .before .before .before .before .loop .left) (k .before .before .before .before .before .loop .place) (k .before .before .before .before .before .loop .written)
+inv : (k : tie.After-known-told Inv-loop μ-loop)
+    → Transcribing (k .before .before .before .before .before .before .before .before .before .args .sheet .now)
+    (k .before .before .before .before .before .loop .buf) (k .before .before .before .before .before .loop .left)
+    (k .before .before .before .before .before .loop .place) (k .before .before .before .before .before .loop .written)
 inv k = k .before .before .before .before .before .loop .inv .0
 
-kept : (k : tie.After-known-told Inv-loop μ-loop) → length (k .before .before .before .before .before .loop .buf) ≡ length (k .before .before .before .before .before .before .before .before .before .args .buf .now)
+kept : (k : tie.After-known-told Inv-loop μ-loop)
+    → length (k .before .before .before .before .before .loop .buf) ≡ length (k .before .before .before .before .before .before .before .before .before .args .buf .now)
 kept k = k .before .before .before .before .before .loop .inv .1
 
 some : (k : tie.After-known-told Inv-loop μ-loop) → 0 < k .before .before .before .before .before .loop .left
 some k = omega (arith, k .before .before .before .before .loop-test .taken)
 
-octets : (k : tie.After-known-told Inv-loop μ-loop) → Octets (k .before .before .before .before .before .before .before .before .before .args .sheet .now)
+octets : (k : tie.After-known-told Inv-loop μ-loop)
+    → Octets (k .before .before .before .before .before .before .before .before .before .args .sheet .now)
 octets k = slice-octets (k .before .before .before .before .before .before .before .before .before .args .sheet .now) (k .before .before .before .before .before .before .before .before .shared-slice-known .given)
 
 -- the head, and that it is an item's
-says : (k : tie.After-known-told Inv-loop μ-loop) → k .before .before .before .head-at .result ≡ headedAt (k .before .before .before .before .before .before .before .before .before .args .sheet .now) (k .before .before .before .before .before .loop .place)
+says : (k : tie.After-known-told Inv-loop μ-loop)
+    → k .before .before .before .head-at .result ≡ headedAt (k .before .before .before .before .before .before .before .before .before .args .sheet .now) (k .before .before .before .before .before .loop .place)
 says k = k .before .before .before .head-at .ensures
 
 item : (k : tie.After-known-told Inv-loop μ-loop) → (let f = k .before .number .given .0 in k .before .before .before .head-at .result ≡ Item (f .0) (f .1 .0) (f .1 .1 .0) (f .1 .1 .1 .0))
 item k = k .before .number .given .1
 
-after : (k : tie.After-known-told Inv-loop μ-loop) → k .before .before .before .before .before .loop .place + 4 ≤ k .before .number .given .0 .1 .1 .1 .0
+after : (k : tie.After-known-told Inv-loop μ-loop)
+    → k .before .before .before .before .before .loop .place + 4 ≤ k .before .number .given .0 .1 .1 .1 .0
 after k = behind-head _ _ (octets k) _ (says k) _ _ _ _ (item k)
 
-within : (k : tie.After-known-told Inv-loop μ-loop) → k .before .number .given .0 .1 .1 .1 .0 ≤ length (k .before .before .before .before .before .before .before .before .before .args .sheet .now)
+within : (k : tie.After-known-told Inv-loop μ-loop)
+    → k .before .number .given .0 .1 .1 .1 .0 ≤ length (k .before .before .before .before .before .before .before .before .before .args .sheet .now)
 within k = behind-within _ _ (octets k) _ (says k) _ _ _ _ (item k)
 
 -- there is room for an attribute and its head
@@ -60,24 +68,9 @@ attributed d = let k = d .before .before .before .before in attributed-here _ _ 
 sub-last : tie.Need-sub-last Inv-loop μ-loop
 sub-last c = omega (arith, c .before .before .pre .1)
 
-u16-at-requires : tie.Need-u16-at-requires Inv-loop μ-loop
-u16-at-requires c κs = search needs
-
-cast-left : tie.Need-cast-left Inv-loop μ-loop
-cast-left c = search needs
-
 loop-holds : tie.Need-loop-holds Inv-loop μ-loop
 loop-holds c = let l = c .before .before .before .args .sheet .now in
     (transcribing-none l _ _ (slice-octets l (c .before .before .shared-slice-known .given)) (c .u16-at .ensures), refl)
-
-head-at-requires : tie.Need-head-at-requires Inv-loop μ-loop
-head-at-requires c κs = search needs
-
-enum-known-number : tie.Need-enum-known-number Inv-loop μ-loop
-enum-known-number c = search needs
-
-least-requires : tie.Need-least-requires Inv-loop μ-loop
-least-requires c κs = search needs
 
 add-behind : tie.Need-add-behind Inv-loop μ-loop
 add-behind c = let k = c .before in omega (arith, after k, within k, k .before .before .before .before .before .before .before .before .before .good)
@@ -88,9 +81,6 @@ sub-rest c = omega (arith, after (c .before), within (c .before))
 part-rest-start : tie.Need-part-rest-start Inv-loop μ-loop
 part-rest-start c = omega (arith, after (c .before), within (c .before))
 
-part-rest-end : tie.Need-part-rest-end Inv-loop μ-loop
-part-rest-end c = search needs
-
 sub-put-attribute : tie.Need-sub-put-attribute Inv-loop μ-loop
 sub-put-attribute c = omega (arith, after (c .before .before .before))
 
@@ -99,16 +89,13 @@ put-attribute-requires c κs = let k = c .before .before .before in
     let m = c .before .before .least .ensures in
     (carried-low _ _ (octets k) _ (says k) _ _ _ _ (item k), (size-is _ _ (octets k) _ (says k) _ _ _ _ (item k), (size-within _ _ (octets k) _ (says k) _ _ _ _ (item k), omega (arith, room k, kept k, m))))
 
-broken-requires : tie.Need-broken-requires Inv-loop μ-loop
-broken-requires c κs = search needs
-
 same-length : tie.Need-same-length Inv-loop μ-loop
 same-length c = let d = c .before .before .before .before in d .put-attribute .kept .0 ∙ kept (d .before .before .before .before)
 
 returns : tie.Need-returns Inv-loop μ-loop
 returns c = let d = c .before .before .before .before in
     let k = d .before .before .before .before in
-    rw (c .broken .ensures) (transcribing-23 _ _ _ _ _ (inv k) (some k) (octets k) _ (says k) _ _ _ _ (item k) _ _ _ (attributed d) (c .before .if1 .taken))
+    rw (c .refused .ensures) (transcribing-23 _ _ _ _ _ (inv k) (some k) (octets k) _ (says k) _ _ _ _ (item k) _ _ _ (attributed d) (c .before .if1 .taken))
 
 add-written : tie.Need-add-written Inv-loop μ-loop
 add-written c = let d = c .before .before .before in
@@ -126,9 +113,6 @@ loop-again c = let d = c .before .before .before in
     let k = d .before .before .before .before in
     (transcribing-more _ _ _ _ _ (inv k) (some k) (octets k) _ (says k) _ _ _ _ (item k) _ _ _ (attributed d) (c .if1 .left) (room k) (d .before .before .before .least .ensures ∙ ap (λ (n : ℕ). min (k .before .before .before .before .before .loop .written) (n - 263)) (sym (kept k))), d .put-attribute .kept .0 ∙ kept k)
 
-enum-known-refusal : tie.Need-enum-known-refusal Inv-loop μ-loop
-enum-known-refusal c = search needs
-
 same-length-2 : tie.Need-same-length-2 Inv-loop μ-loop
 same-length-2 c = c .before .before .before .before .before .loop .inv .1
 
@@ -136,20 +120,12 @@ returns-2 : tie.Need-returns-2 Inv-loop μ-loop
 returns-2 c = let l = c .before .before .before .before .before .before .before .before .before .args .sheet .now in
     transcribing-refused _ _ _ _ _ (c .before .before .before .before .before .loop .inv .0) (omega (arith, c .before .before .before .before .loop-test .taken)) (slice-octets l (c .before .before .before .before .before .before .before .before .shared-slice-known .given)) _ (c .before .before .before .head-at .ensures) _ _ (c .before .refusal .given .1)
 
-broken-requires-2 : tie.Need-broken-requires-2 Inv-loop μ-loop
-broken-requires-2 c κs = search needs
-
 same-length-3 : tie.Need-same-length-3 Inv-loop μ-loop
-same-length-3 c = c .before .before .before .loop .inv .1
+same-length-3 c = c .before .before .loop .inv .1
 
 returns-3 : tie.Need-returns-3 Inv-loop μ-loop
-returns-3 c = rw (c .broken2 .ensures) (transcribing-remains _ _ _ _ _ (c .before .before .before .loop .inv .0) (omega (arith, c .before .before .loop-test .left)) (c .before .if2 .taken))
-
-same-length-4 : tie.Need-same-length-4 Inv-loop μ-loop
-same-length-4 c = c .before .before .loop .inv .1
-
-returns-4 : tie.Need-returns-4 Inv-loop μ-loop
-returns-4 c = transcribing-done _ _ _ _ _ (c .before .before .loop .inv .0) (omega (arith, c .before .loop-test .left)) (omega arith)
+returns-3 c =
+    rw (c .ended .ensures) (transcribing-ended _ _ _ _ _ (c .before .before .loop .inv .0) (omega (arith, c .before .loop-test .left)))
 
 pub transcribe-spec : {M : Type 1} → statement M
 transcribe-spec =
@@ -158,30 +134,28 @@ transcribe-spec =
     Inv-loop
     μ-loop
     sub-last
-    u16-at-requires
-    cast-left
+    (λ c κs. search needs)
+    (λ c. search needs)
     loop-holds
-    head-at-requires
-    enum-known-number
-    least-requires
+    (λ c κs. search needs)
+    (λ c. search needs)
+    (λ c κs. search needs)
     add-behind
     sub-rest
     part-rest-start
-    part-rest-end
+    (λ c. search needs)
     sub-put-attribute
     put-attribute-requires
-    broken-requires
+    (λ c κs. search needs)
     same-length
     returns
     add-written
     sub-left
     loop-less
     loop-again
-    enum-known-refusal
+    (λ c. search needs)
     same-length-2
     returns-2
-    broken-requires-2
+    (λ c κs. search needs)
     same-length-3
-    returns-3
-    same-length-4
-    returns-4)
+    returns-3)
