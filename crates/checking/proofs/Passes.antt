@@ -8,6 +8,7 @@ use lib.Dec.{eqb}
 use lib.ListN.{length, take, drop, getD, set, replicate, length-set, length-replicate, getD-replicate}
 use lib.Seq.{getD-set-same, getD-set-other}
 use borrow.Author.Tests.{eqb-true, eqb-false, not-true}
+use Rattle.meaning.specs.Versions.{current}
 use Rattle.meaning.specs.Octets.{isIn}
 use Rattle.meaning.specs.Jobs.{Context}
 use Rattle.meaning.specs.Framing.{Walk, end, broken, walk, walkAt, attributes}
@@ -42,7 +43,7 @@ unfolding brokenBy
 broken-few c again x = chosen-few (brokenBy c again x)
 
 -- What the code finds of an attribute by its tests.
-module _ (c : Context) (again : Bool) (place n : ℕ) (v : List ℕ) (met off bar : Bool) (m : met ≡ meets (shapeOf n) v)
+module _ (c : Context) (again : Bool) (place n : ℕ) (v : List ℕ) (met off bar : Bool) (m : met ≡ meets current (shapeOf n) v)
     (o : off ≡ met && not (allowed c n v)) (b : bar ≡ barred c n) where
   -- what it breaks, laid rule by rule
   pub broken-laid : (d one two three held : List ℕ) (at first second third said : ℕ)

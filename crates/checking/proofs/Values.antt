@@ -7,6 +7,7 @@ use native.Mathlib.Omega.{arith}
 use lib.Dec.{eqb, leb}
 use lib.ListN.{length, getD}
 use borrow.Author.Tests.{le-leb, ne-eqb, eqb-true}
+use Rattle.meaning.specs.Versions.{current}
 use Rattle.meaning.specs.Octets.{between, all, isDigit, numberOf, digitValue, values}
 use Rattle.meaning.specs.Jobs.{Context}
 use Rattle.meaning.specs.Framing.{gpp}
@@ -21,17 +22,17 @@ whole-number : (v : List ℕ) (x : ℕ) → x ≡ numberOf (partOf v 0 4) → le
 whole-number v x e h = e ∙ ap numberOf (part-rest v 0 4 (omega arith))
 
 -- one decimal digit
-digit-long : (n : ℕ) (v : List ℕ) → meets (shapeOf n) v ≡ true → n ≡ gpp 12 → length v ≡ 1
+digit-long : (n : ℕ) (v : List ℕ) → meets current (shapeOf n) v ≡ true → n ≡ gpp 12 → length v ≡ 1
 unfolding shapeOf gppShape meets
 digit-long n v met p =
     let both = passes (eqb (length v) 1 && all isDigit v) (rw p at met) in
     eqb-true (length v) 1 (is-true (eqb (length v) 1) (parts (eqb (length v) 1) (all isDigit v) both .0))
 
-pub digit-there : (n : ℕ) (v : List ℕ) → meets (shapeOf n) v ≡ true → n ≡ gpp 12 → 0 < length v
+pub digit-there : (n : ℕ) (v : List ℕ) → meets current (shapeOf n) v ≡ true → n ≡ gpp 12 → 0 < length v
 digit-there n v met p = omega (arith, digit-long n v met p)
 
 -- The value v of the carried number n meets its shape; x is the number at its start.
-module _ (c : Context) (n : ℕ) (v : List ℕ) (met : meets (shapeOf n) v ≡ true) where
+module _ (c : Context) (n : ℕ) (v : List ℕ) (met : meets current (shapeOf n) v ≡ true) where
   module _ (x : ℕ) (read : x ≡ numberOf (partOf v 0 4)) where
     four : eqb (length v) 4 ≡ true → x ≡ numberOf v
     four e = whole-number v x read (omega (arith, eqb-true (length v) 4 e))

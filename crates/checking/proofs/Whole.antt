@@ -14,7 +14,7 @@ use Rattle.meaning.specs.Refusals.{none, areaRefusal, areaOrder}
 use Rattle.meaning.specs.Listing.{chosen, along, atEnd, numbersOf, breaches, viewsOf, listOf}
 use Rattle.meaning.specs.Answers.{over, after, checkAnswer}
 use Rattle.meaning.proofs.Tests.{parts, passes}
-use Rattle.meaning.proofs.RoundTrip.{no-refusal}
+use Rattle.meaning.proofs.Walked.{no-refusal}
 use Rattle.area.specs.declared.Refusal.{Refusal}
 use Rattle.area.specs.declared.Arrival.the-variants.{Fit}
 use Rattle.area.specs.Answers.{inBook, arrivalOf}

@@ -9,6 +9,7 @@ ghost use Prim.Native.Nat.{ℕ, _+_, _≤_, _<_};
 ghost use lib.Dec.{eqb};
 ghost use lib.ListN.{length};
 ghost use mathlib.Core.List.{[], map};
+ghost use Rattle.meaning.specs.Versions.{current};
 ghost use Rattle.meaning.specs.Jobs.{comes};
 ghost use Rattle.meaning.specs.Shapes.{shapeOf, meets, statusOf};
 ghost use Rattle.meaning.specs.Shapes as shapes;
@@ -152,7 +153,7 @@ fn status_allowed(kind: u32, status: u32) -> bool
 
 // "Allowed values, where the shape holds", whatever the flags.
 fn allowed(kind: u32, number: u16, value: &[u8]) -> bool
-    requires { ⌜ Known kind × (meets (shapeOf number) (now value) ≡ true) ⌝ }
+    requires { ⌜ Known kind × (meets current (shapeOf number) (now value) ≡ true) ⌝ }
     ensures { λ r. ⌜ ((flags : ℕ) → r ≡ shapes.allowed (comes kind flags) number (now (value .entry))) ⌝ }
 {
     match number {
@@ -176,7 +177,7 @@ fn allowed(kind: u32, number: u16, value: &[u8]) -> bool
 
 // Rule 2: "shape met, value not allowed".
 fn offends(kind: u32, number: u16, value: &[u8], met: bool) -> bool
-    requires { ⌜ Known kind × (met ≡ meets (shapeOf number) (now value)) ⌝ }
+    requires { ⌜ Known kind × (met ≡ meets current (shapeOf number) (now value)) ⌝ }
     ensures { λ r. ⌜ ((flags : ℕ) → r ≡ met && not (shapes.allowed (comes kind flags) number (now (value .entry)))) ⌝ }
 {
     if !met {

@@ -9,6 +9,7 @@ use lib.Dec.{eqb, ltb}
 use borrow.Author.Tests.{lt-ltb, le-ltb, ltb-true, ltb-false}
 use lib.ListN.{length, take, drop, getD, length-drop}
 use lib.Seq.{drop-drop, getD-drop, length-take-le}
+use Rattle.meaning.specs.Versions.{current}
 use Rattle.meaning.specs.Octets.{Octets, packedLength}
 use Rattle.meaning.specs.Sheet.{numberIn, valueIn, storedLength, Entered, holds, refused, judgedItem, wholeItem, entered}
 use Rattle.meaning.proofs.Octets.{octet-at}
@@ -22,24 +23,24 @@ use Rattle.item.specs.Answers.{enteredAt, headRefused, headFrom, headedA
 use Rattle.item.proofs.Judging.{sub-wrong, stands-as}
 
 -- the judgement of an item whose octets are there
-whole-stands : (d : List ℕ) → 4 + storedLength (getD d 2 0) (getD d 3 0) ≤ length d →
+whole-stands : (d : List ℕ) → 4 + storedLength current (getD d 2 0) (getD d 3 0) ≤ length d →
     (let n = numberIn (getD d 0 0) (getD d 1 0) (getD d 2 0) in
-    let k = storedLength (getD d 2 0) (getD d 3 0) in
+    let k = storedLength current (getD d 2 0) (getD d 3 0) in
     let st = take k (drop 4 d) in
-    wholeItem d ≡ cond (standsFor (getD d 0 0) (getD d 1 0) (getD d 2 0) (getD d 3 0) st) (holds n (valueIn n (getD d 2 0) (getD d 3 0) st) (4 + k)) (refused 23))
+    wholeItem current d ≡ cond (standsFor (getD d 0 0) (getD d 1 0) (getD d 2 0) (getD d 3 0) st) (holds n (valueIn current n (getD d 2 0) (getD d 3 0) st) (4 + k)) (refused 23))
 unfolding wholeItem judgedItem standsFor
 whole-stands [] h = absurd (omega arith)
 whole-stands (a ∷ []) h = absurd (omega arith)
 whole-stands (a ∷ b ∷ []) h = absurd (omega arith)
 whole-stands (a ∷ b ∷ x ∷ []) h = absurd (omega arith)
 whole-stands (a ∷ b ∷ x ∷ y ∷ r) h =
-    let k : ℕ = storedLength x y in
+    let k : ℕ = storedLength current x y in
     let e : 4 + k ≡ suc (suc (suc (suc k))) = omega arith in
     let n : length (take k r) ≡ k = length-take-le k r (omega arith) in
     rw (e, n)
 
 -- the octets of an item are few
-pub stored-low : (f c : ℕ) → c < 256 → storedLength f c < 256
+pub stored-low : (f c : ℕ) → c < 256 → storedLength current f c < 256
 stored-low f c h = go (eqb f 4)
   where
     go : (b : Bool) → cond b (packedLength c) c < 256
@@ -55,13 +56,13 @@ module _ (l : List ℕ) (p : ℕ) where
   count-at = getD l (p + 3) 0
 
   abbrev pub size-at : ℕ
-  size-at = 4 + storedLength form-at count-at
+  size-at = 4 + storedLength current form-at count-at
 
   abbrev number-at : ℕ
   number-at = numberIn (getD l p 0) (getD l (p + 1) 0) form-at
 
   abbrev stored-at : List ℕ
-  stored-at = partOf l (p + 4) (storedLength form-at count-at)
+  stored-at = partOf l (p + 4) (storedLength current form-at count-at)
 
   no-head : length l - p < 4 → enteredAt l p ≡ refused 22
   unfolding enteredAt entered
@@ -73,11 +74,11 @@ module _ (l : List ℕ) (p : ℕ) where
 
   judged-at : size-at ≤ length l - p
       → enteredAt l p ≡ cond (standsFor (getD l p 0) (getD l (p + 1) 0) form-at count-at stored-at)
-      (holds number-at (valueIn number-at form-at count-at stored-at) size-at) (refused 23)
+      (holds number-at (valueIn current number-at form-at count-at stored-at) size-at) (refused 23)
   unfolding enteredAt entered partOf
   judged-at g =
       let first : getD (drop p l) 0 0 ≡ getD l p 0 = getD-drop p l 0 0 ∙ ap (λ (k : ℕ). getD l k 0) (add-zero p) in
-      let whole : 4 + storedLength (getD (drop p l) 2 0) (getD (drop p l) 3 0) ≤ length (drop p l) = rw (getD-drop p l 2 0, getD-drop p l 3 0, length-drop p l) g in
+      let whole : 4 + storedLength current (getD (drop p l) 2 0) (getD (drop p l) 3 0) ≤ length (drop p l) = rw (getD-drop p l 2 0, getD-drop p l 3 0, length-drop p l) g in
       rw (length-drop p l, le-ltb (length l - p) 4 (omega arith), getD-drop p l 2 0, getD-drop p l 3 0, le-ltb (length l - p) size-at g)
       (rw (first, getD-drop p l 1 0, getD-drop p l 2 0, getD-drop p l 3 0, drop-drop 4 p l) at (whole-stands (drop p l) whole))
 
@@ -87,7 +88,7 @@ module _ (l : List ℕ) (p : ℕ) where
   unfolding headedAt
   headed-short h = rw (lt-ltb (length l - p) 4 h)
 
-  module _ (k : ℕ) (is : k ≡ storedLength form-at count-at) where
+  module _ (k : ℕ) (is : k ≡ storedLength current form-at count-at) where
     pub headed-cut : 4 ≤ length l - p → length l - p < 4 + k → headRefused 22 p ≡ headedAt l p
     unfolding headedAt
     headed-cut h g = rw (le-ltb (length l - p) 4 h, lt-ltb (length l - p) size-at (omega (arith, is)))
@@ -115,8 +116,8 @@ module _ (l : List ℕ) (p : ℕ) (o : Octets l) (r : Headed) (says : r ≡ head
     pub sub-is : ltb (number-at l p) 256 && not (eqb (getD l (p + 1) 0) 0) ≡ false
 
   -- the octets that it stores
-  stored-long : size-at l p ≤ length l - p → length (stored-at l p) ≡ storedLength (form-at l p) (count-at l p)
-  stored-long g = part-within l (p + 4) (storedLength (form-at l p) (count-at l p)) (omega arith)
+  stored-long : size-at l p ≤ length l - p → length (stored-at l p) ≡ storedLength current (form-at l p) (count-at l p)
+  stored-long g = part-within l (p + 4) (storedLength current (form-at l p) (count-at l p)) (omega arith)
 
   pub a-head : (number form count behind : ℕ) → r ≡ Item number form count behind → AHead number form count behind
   unfolding headedAt headFrom
@@ -166,10 +167,10 @@ module _ (l : List ℕ) (p : ℕ) (o : Octets l) (r : Headed) (says : r ≡ head
     -- the stored octets, from behind the head to the place behind the item
     stored-part : take (behind - (p + 4)) (drop (p + 4) l) ≡ stored-at l p
     unfolding partOf
-    stored-part = let size : behind - (p + 4) ≡ storedLength (form-at l p) (count-at l p) = omega (arith, h .behind-is) in rw size
+    stored-part = let size : behind - (p + 4) ≡ storedLength current (form-at l p) (count-at l p) = omega (arith, h .behind-is) in rw size
 
-    pub size-stored : length (take (behind - (p + 4)) (drop (p + 4) l)) ≡ storedLength form count
-    size-stored = ap length stored-part ∙ stored-long (h .room) ∙ sym (λ i. storedLength (h .form-is i) (h .count-is i))
+    pub size-stored : length (take (behind - (p + 4)) (drop (p + 4) l)) ≡ storedLength current form count
+    size-stored = ap length stored-part ∙ stored-long (h .room) ∙ sym (λ i. storedLength current (h .form-is i) (h .count-is i))
 
     item-stands : standsAs number form count (take (behind - (p + 4)) (drop (p + 4) l)) ≡ standsFor (getD l p 0) (getD l (p + 1) 0)
         (form-at l p) (count-at l p) (stored-at l p)
@@ -179,7 +180,7 @@ module _ (l : List ℕ) (p : ℕ) (o : Octets l) (r : Headed) (says : r ≡ head
 
     -- what stands at the place, by the test of the item
     pub item-is : enteredAt l p ≡ cond (standsAs number form count (take (behind - (p + 4)) (drop (p + 4) l)))
-        (holds number (valueIn number form count (take (behind - (p + 4)) (drop (p + 4) l))) (size-at l p)) (refused 23)
+        (holds number (valueIn current number form count (take (behind - (p + 4)) (drop (p + 4) l))) (size-at l p)) (refused 23)
     item-is =
-        judged-at l p (h .room) ∙ ap (λ (b : Bool). cond b (holds (number-at l p) (valueIn (number-at l p) (form-at l p) (count-at l p) (stored-at l p)) (size-at l p)) (refused 23)) (sym item-stands)
-        ∙ ap (λ (e : Entered). cond (standsAs number form count (take (behind - (p + 4)) (drop (p + 4) l))) e (refused 23)) (sym (λ i. holds (h .number-is i) (valueIn (h .number-is i) (h .form-is i) (h .count-is i) (stored-part i)) (size-at l p)))
+        judged-at l p (h .room) ∙ ap (λ (b : Bool). cond b (holds (number-at l p) (valueIn current (number-at l p) (form-at l p) (count-at l p) (stored-at l p)) (size-at l p)) (refused 23)) (sym item-stands)
+        ∙ ap (λ (e : Entered). cond (standsAs number form count (take (behind - (p + 4)) (drop (p + 4) l))) e (refused 23)) (sym (λ i. holds (h .number-is i) (valueIn current (h .number-is i) (h .form-is i) (h .count-is i) (stored-part i)) (size-at l p)))

@@ -8,6 +8,7 @@ use native.Mathlib.Omega.{arith}
 use lib.Dec.{eqb, leb}
 use borrow.Author.Tests.{lt-leb, leb-true, leb-false, eq-eqb, ne-eqb, eqb-true, eqb-false}
 use lib.ListN.{length, take, getD}
+use Rattle.meaning.specs.Versions.{current}
 use Rattle.meaning.specs.Octets.{Octets, between, all, same, isDigit, isHex, digitText, values, text, pack, unpack, packedLength}
 use Rattle.meaning.specs.Shapes.{number, address, digits, hexadecimal, qos, hexDigit, anyOctet, decimalDigit, meets, release}
 use Rattle.meaning.specs.Sheet.{formOf, storedOf, valueOf}
@@ -126,13 +127,13 @@ module _ (x : ℕ) (r : List ℕ) where
   abbrev told : List ℕ
   told = digitText (x / 10) ∷ digitText (x % 10) ∷ 45 ∷ behind
 
-  told-is : valueOf qos 0 (x ∷ r) ≡ told
+  told-is : valueOf current qos 0 (x ∷ r) ≡ told
   unfolding valueOf text
   told-is = let e : suc (length r) - 1 ≡ length r = omega arith in rw e
 
   module _ (o : Octets (x ∷ r)) where
     -- a release of so many digits, told by its octet and the octets behind it
-    released : (d k : ℕ) → d ≤ 9 → release 57 (d + 48) (2 * k) told ≡ eqb x (90 + d) && eqb (length r) k
+    released : (d k : ℕ) → d ≤ 9 → release current 57 (d + 48) (2 * k) told ≡ eqb x (90 + d) && eqb (length r) k
     released d k h =
         rw (text-is (x / 10) 9 (omega arith), text-is (x % 10) d h, release-is x d h, whole-length r, is-true (all isHex behind) (whole-hexes r (o .1)))
         (ap (λ (t : Bool). eqb x (90 + d) && t) (and-true (eqb (suc (suc (suc (2 * length r)))) (3 + 2 * k)) ∙ count-is (eqb (length r) k) refl))
@@ -142,7 +143,7 @@ module _ (x : ℕ) (r : List ℕ) where
         count-is false e = ne-eqb (suc (suc (suc (2 * length r)))) (3 + 2 * k) (λ g. eqb-false (length r) k e (omega arith))
 
     -- what is stored of the text, where the release is one of the two
-    same-again : (d : ℕ) → d ≤ 9 → x ≡ 90 + d → same (storedOf qos told) (x ∷ r) ≡ true
+    same-again : (d : ℕ) → d ≤ 9 → x ≡ 90 + d → same (storedOf current qos told) (x ∷ r) ≡ true
     unfolding storedOf
     same-again d h e =
         let tens : x / 10 ≡ 9 = omega arith in
@@ -153,12 +154,12 @@ module _ (x : ℕ) (r : List ℕ) where
     pub qos-held : held qos 0 (x ∷ r) ≡ eqb x 98 && eqb (length r) 3 || eqb x 99 && eqb (length r) 11
     unfolding held formOf meets
     qos-held =
-        ap (λ (v : List ℕ). (release 57 56 6 v || release 57 57 22 v) && same (storedOf qos v) (x ∷ r)) told-is
+        ap (λ (v : List ℕ). (release current 57 56 6 v || release current 57 57 22 v) && same (storedOf current qos v) (x ∷ r)) told-is
         ∙ rw (released 8 3 (omega arith), released 9 11 (omega arith))
         (go (eqb x 98) (eqb x 99) refl refl)
       where
         go : (a b : Bool) → eqb x 98 ≡ a → eqb x 99 ≡ b
-            → (a && eqb (length r) 3 || b && eqb (length r) 11) && same (storedOf qos told)
+            → (a && eqb (length r) 3 || b && eqb (length r) 11) && same (storedOf current qos told)
             (x ∷ r) ≡ (a && eqb (length r) 3 || b && eqb (length r) 11)
         go true b e f = rw (same-again 8 (omega arith) (eqb-true x 98 e)) (and-true (eqb (length r) 3 || b && eqb (length r) 11))
         go false true e f = rw (same-again 9 (omega arith) (eqb-true x 99 f)) (and-true (eqb (length r) 11))
@@ -176,7 +177,7 @@ qos-long (x ∷ r) o n =
     sym (qos-held x r o ∙ rw (ne-eqb (length r) 3 (λ e. omega arith), eq-eqb (length r) 11 (omega arith), and-false (eqb x 98), and-true (eqb x 99)))
 
 -- a release of another length
-other-length : (a b n : ℕ) (v : List ℕ) → (length v ≡ 3 + n → ⊥) → release a b n v ≡ false
+other-length : (a b n : ℕ) (v : List ℕ) → (length v ≡ 3 + n → ⊥) → release current a b n v ≡ false
 other-length a b n v h = rw (ne-eqb (length v) (3 + n) h) (and-false (same (take 3 v) (a ∷ b ∷ 45 ∷ [])))
 
 pub qos-other : (st : List ℕ) → (length st ≡ 4 → ⊥) → (length st ≡ 12 → ⊥) → false ≡ held qos 0 st
@@ -184,7 +185,7 @@ unfolding held formOf meets valueOf text
 qos-other [] h g = refl
 qos-other (x ∷ r) h g =
     let n : length (text (unpack (2 * length r) r)) ≡ 2 * length r = whole-length r in
-    let none : release 57 56 6 (told x r) || release 57 57 22 (told x r) ≡ false =
+    let none : release current 57 56 6 (told x r) || release current 57 57 22 (told x r) ≡ false =
     rw (other-length 57 56 6 (told x r) (λ e. h (omega arith)), other-length 57 57 22 (told x r) (λ e. g (omega arith))) in
-    ap (λ (t : Bool). t && same (storedOf qos (told x r)) (x ∷ r)) (sym none)
-    ∙ ap (λ (v : List ℕ). (release 57 56 6 v || release 57 57 22 v) && same (storedOf qos v) (x ∷ r)) (sym (told-is x r))
+    ap (λ (t : Bool). t && same (storedOf current qos (told x r)) (x ∷ r)) (sym none)
+    ∙ ap (λ (v : List ℕ). (release current 57 56 6 v || release current 57 57 22 v) && same (storedOf current qos v) (x ∷ r)) (sym (told-is x r))

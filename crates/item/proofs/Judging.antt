@@ -7,10 +7,11 @@ use native.Mathlib.Omega.{arith}
 use lib.Dec.{eqb, leb, ltb}
 use borrow.Author.Tests.{lt-ltb, le-ltb, le-leb, lt-leb, eq-eqb, ne-eqb, eqb-true, eqb-false, ltb-true, ltb-false}
 use lib.ListN.{length}
+use Rattle.meaning.specs.Versions.{current}
 use Rattle.meaning.specs.Octets.{numberOf}
-use Rattle.meaning.specs.Framing.{gpp, isPlain}
+use Rattle.meaning.specs.Framing.{gpp, isPlain, carries}
 use Rattle.meaning.specs.Shapes.{shapeOf, meets}
-use Rattle.meaning.specs.Sheet.{subOf, carries, numberIn, storedLength}
+use Rattle.meaning.specs.Sheet.{subOf, numberIn, storedLength}
 use Rattle.meaning.proofs.Tests.{not-both}
 use Rattle.octets.specs.Parts.{partOf}
 use Rattle.shape.specs.Codes.{codeOf, shapeBy}
@@ -67,12 +68,12 @@ module _ (n code f : ℕ) (v : List ℕ) where
   raw-other h = rw (ne-eqb (cond (isPlain n) 0 1) f (λ e. h (sym e)))
 
   -- a value that meets a shape with a form of its own
-  pub raw-met : 20 ≤ code → meets (shapeBy code) v ≡ true → false ≡ raw n code f v
+  pub raw-met : 20 ≤ code → meets current (shapeBy code) v ≡ true → false ≡ raw n code f v
   unfolding raw
   raw-met h m = rw (le-leb 20 code h, m) (sym (and-false (eqb (cond (isPlain n) 0 1) f)))
 
   -- one that misses its shape, and one whose shape has no form of its own
-  pub raw-missed : f ≡ cond (isPlain n) 0 1 → meets (shapeBy code) v ≡ false → carries n v ≡ raw n code f v
+  pub raw-missed : f ≡ cond (isPlain n) 0 1 → meets current (shapeBy code) v ≡ false → carries n v ≡ raw n code f v
   unfolding raw
   raw-missed p m = rw (eq-eqb (cond (isPlain n) 0 1) f (sym p), m, and-false (leb 20 code))
 
@@ -82,7 +83,7 @@ module _ (n code f : ℕ) (v : List ℕ) where
 
 -- ---- The item
 
-module _ (t s f c : ℕ) (st : List ℕ) (octet : t < 256) (long : length st ≡ storedLength f c) (n : ℕ) (is : n ≡ numberIn t s f) where
+module _ (t s f c : ℕ) (st : List ℕ) (octet : t < 256) (long : length st ≡ storedLength current f c) (n : ℕ) (is : n ≡ numberIn t s f) where
   -- the number of a 3GPP item tells its sub-attribute number
   sub-3gpp : 256 ≤ n → n ≡ gpp s
   sub-3gpp h = go (eqb t 26 && not (eqb f 0)) refl

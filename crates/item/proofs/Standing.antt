@@ -9,10 +9,11 @@ use native.Mathlib.Omega.{arith}
 use lib.Dec.{T, eqb, leb, eqb→eq, leb→le}
 use borrow.Author.Tests.{lt-ltb, le-ltb, le-leb, lt-leb, leb-true, leb-false, eq-eqb, ne-eqb, eqb-true}
 use lib.ListN.{length, take}
+use Rattle.meaning.specs.Versions.{current}
 use Rattle.meaning.specs.Octets.{between, all, same, isDigit, isHex, packedLength, unpack, numberOf}
-use Rattle.meaning.specs.Framing.{gpp, isPlain}
+use Rattle.meaning.specs.Framing.{gpp, isPlain, carries}
 use Rattle.meaning.specs.Shapes.{Shape, number, address, digits, hexadecimal, qos, hexDigit, anyOctet, decimalDigit, atLeast, exactly, blocks, free, plainShape, shapeOf, release, meets}
-use Rattle.meaning.specs.Sheet.{typeOf, subOf, formOf, storedOf, valueOf, decodes, form, stored, count, item, carries, numberIn, storedLength}
+use Rattle.meaning.specs.Sheet.{typeOf, subOf, formOf, storedOf, valueOf, decodes, form, stored, count, item, numberIn, storedLength}
 use Rattle.meaning.proofs.Tests.{both, parts, either, is-true, passes, same-one, same-itself}
 use Rattle.meaning.proofs.Packing.{unpack-length}
 use Rattle.meaning.proofs.Forms.{released, raw-low, either-way, Decoded, Plainly}
@@ -35,29 +36,29 @@ type-in t s f h = go (eqb t 26) (eqb f 0) refl
 -- what an item's octets say, one by one
 record Headed (n : ℕ) (v : List ℕ) (t s f c : ℕ) (st : List ℕ) : Type 0 where
   sub-is : subOf n ≡ s
-  form-is : form n v ≡ f
-  count-is : count n v ≡ c
-  stored-is : stored n v ≡ st
+  form-is : form current n v ≡ f
+  count-is : count current n v ≡ c
+  stored-is : stored current n v ≡ st
 
-headed : (n : ℕ) (v : List ℕ) (t s f c : ℕ) (st : List ℕ) → item n v ≡ t ∷ s ∷ f ∷ c ∷ st → Headed n v t s f c st
+headed : (n : ℕ) (v : List ℕ) (t s f c : ℕ) (st : List ℕ) → item current n v ≡ t ∷ s ∷ f ∷ c ∷ st → Headed n v t s f c st
 unfolding item
 headed n v t s f c st e = record { sub-is = cc; form-is = cc; count-is = cc; stored-is = cc }
 
 -- and an item that says them
-says : (n : ℕ) (v : List ℕ) (t s f c : ℕ) (st : List ℕ) → typeOf n ≡ t → Headed n v t s f c st → T (same (item n v) (t ∷ s ∷ f ∷ c ∷ st))
+says : (n : ℕ) (v : List ℕ) (t s f c : ℕ) (st : List ℕ) → typeOf n ≡ t → Headed n v t s f c st → T (same (item current n v) (t ∷ s ∷ f ∷ c ∷ st))
 unfolding item
 says n v t s f c st e h = rw (e, h .sub-is, h .form-is, h .count-is, h .stored-is) (same-itself (t ∷ s ∷ f ∷ c ∷ st))
 
 -- ---- Forms 0 and 1
 
 -- a value in form 0 or 1 is counted and stored as it stands
-plainly : (n : ℕ) (v : List ℕ) → form n v ≤ 1 → (count n v ≡ length v) × (stored n v ≡ v)
+plainly : (n : ℕ) (v : List ℕ) → form current n v ≤ 1 → (count current n v ≡ length v) × (stored current n v ≡ v)
 unfolding count
-plainly n v h = go (either-way n v)
+plainly n v h = go (either-way current n v)
   where
-    go : Decoded n v ⊎ Plainly n v → (cond (eqb (form n v) 4) (length v) (length (stored n v)) ≡ length v) × (stored n v ≡ v)
+    go : Decoded current n v ⊎ Plainly current n v → (cond (eqb (form current n v) 4) (length v) (length (stored current n v)) ≡ length v) × (stored current n v ≡ v)
     go (inl d) = absurd (let g : 2 ≤ formOf (shapeOf n) = leb→le 2 _ (d .own) in let e = d .form-is in omega arith)
-    go (inr p) = (rw (ne-eqb (form n v) 4 (λ e. omega arith), p .stored-is), p .stored-is)
+    go (inr p) = (rw (ne-eqb (form current n v) 4 (λ e. omega arith), p .stored-is), p .stored-is)
 
 -- the shapes with a form of their own have the codes from 20 on
 own-code : (s : Shape) → leb 20 (codeOf s) ≡ leb 2 (formOf s)
@@ -68,18 +69,18 @@ own-code s = go (leb 20 (codeOf s)) refl
     go false e = sym (lt-leb 2 (formOf s) (omega (arith, form-in-code s, leb-false 20 (codeOf s) e)))
 
 -- a value stands as it is where its form is 0 or 1 and an attribute carries it
-raw-formed : (n f : ℕ) (v : List ℕ) → f ≤ 1 → eqb (form n v) f && carries n v ≡ raw n (codeOf (shapeOf n)) f v
+raw-formed : (n f : ℕ) (v : List ℕ) → f ≤ 1 → eqb (form current n v) f && carries n v ≡ raw n (codeOf (shapeOf n)) f v
 unfolding form decodes raw
-raw-formed n f v low = rw (own-code (shapeOf n), shape-back n) (go (leb 2 (formOf (shapeOf n)) && meets (shapeOf n) v) refl)
+raw-formed n f v low = rw (own-code (shapeOf n), shape-back n) (go (leb 2 (formOf (shapeOf n)) && meets current (shapeOf n) v) refl)
   where
-    go : (b : Bool) → leb 2 (formOf (shapeOf n)) && meets (shapeOf n) v ≡ b
+    go : (b : Bool) → leb 2 (formOf (shapeOf n)) && meets current (shapeOf n) v ≡ b
         → eqb (cond b (formOf (shapeOf n)) (cond (isPlain n) 0 1)) f && carries n v ≡ eqb (cond (isPlain n) 0 1) f && (not b && carries n v)
     go false e = refl
     go true e =
-        let own : 2 ≤ formOf (shapeOf n) = leb→le 2 (formOf (shapeOf n)) (parts (leb 2 (formOf (shapeOf n))) (meets (shapeOf n) v) (passes _ e) .0) in
+        let own : 2 ≤ formOf (shapeOf n) = leb→le 2 (formOf (shapeOf n)) (parts (leb 2 (formOf (shapeOf n))) (meets current (shapeOf n) v) (passes _ e) .0) in
         rw (ne-eqb (formOf (shapeOf n)) f (λ g. omega arith)) (sym (and-false (eqb (cond (isPlain n) 0 1) f)))
 
-module _ (t s f c : ℕ) (st : List ℕ) (octet : t < 256) (long : length st ≡ storedLength f c) where
+module _ (t s f c : ℕ) (st : List ℕ) (octet : t < 256) (long : length st ≡ storedLength current f c) where
   -- the number that the head names
   abbrev named : ℕ
   named = numberIn t s f
@@ -88,29 +89,29 @@ module _ (t s f c : ℕ) (st : List ℕ) (octet : t < 256) (long : length st ≡
   unfolding standsFor
   raw-stands low = rw (le-leb f 1 low) (same-test _ _ there back) ∙ ap (λ (b : Bool). eqb (subOf named) s && b) (raw-formed named f st low)
     where
-      there : T (carries named st && same (item named st) (t ∷ s ∷ f ∷ c ∷ st))
-          → T (eqb (subOf named) s && (eqb (form named st) f && carries named st))
+      there : T (carries named st && same (item current named st) (t ∷ s ∷ f ∷ c ∷ st))
+          → T (eqb (subOf named) s && (eqb (form current named st) f && carries named st))
       there p =
-          let q = parts (carries named st) (same (item named st) (t ∷ s ∷ f ∷ c ∷ st)) p in
-          let h = headed named st t s f c st (same-one (item named st) (t ∷ s ∷ f ∷ c ∷ st) (q .1)) in
+          let q = parts (carries named st) (same (item current named st) (t ∷ s ∷ f ∷ c ∷ st)) p in
+          let h = headed named st t s f c st (same-one (item current named st) (t ∷ s ∷ f ∷ c ∷ st) (q .1)) in
           both (eqb (subOf named) s) _ (passes _ (eq-eqb (subOf named) s (h .sub-is)))
-          (both (eqb (form named st) f) (carries named st) (passes _ (eq-eqb (form named st) f (h .form-is))) (q .0))
+          (both (eqb (form current named st) f) (carries named st) (passes _ (eq-eqb (form current named st) f (h .form-is))) (q .0))
 
-      back : T (eqb (subOf named) s && (eqb (form named st) f && carries named st))
-          → T (carries named st && same (item named st) (t ∷ s ∷ f ∷ c ∷ st))
+      back : T (eqb (subOf named) s && (eqb (form current named st) f && carries named st))
+          → T (carries named st && same (item current named st) (t ∷ s ∷ f ∷ c ∷ st))
       back p =
-          let q = parts (eqb (subOf named) s) (eqb (form named st) f && carries named st) p in
-          let r = parts (eqb (form named st) f) (carries named st) (q .1) in
-          let e : form named st ≡ f = eqb→eq (form named st) f (r .0) in
+          let q = parts (eqb (subOf named) s) (eqb (form current named st) f && carries named st) p in
+          let r = parts (eqb (form current named st) f) (carries named st) (q .1) in
+          let e : form current named st ≡ f = eqb→eq (form current named st) f (r .0) in
           let k = plainly named st (omega arith) in
           let n : length st ≡ c = long ∙ rw (ne-eqb f 4 (λ g. omega arith)) in
-          both (carries named st) (same (item named st) (t ∷ s ∷ f ∷ c ∷ st)) (r .1)
+          both (carries named st) (same (item current named st) (t ∷ s ∷ f ∷ c ∷ st)) (r .1)
           (says named st t s f c st (type-in t s f octet) (record { sub-is = eqb→eq (subOf named) s (q .0); form-is = e; count-is = k .0 ∙ n; stored-is = k .1 }))
 
 -- ---- Forms 2 to 7
 
 -- A value that meets a shape with a form of its own is short, where a shape of digits asks for fifteen at most.
-short-value : (s : Shape) (v : List ℕ) → T (fifteen s) → T (leb 2 (formOf s)) → T (meets s v) → length v ≤ 246
+short-value : (s : Shape) (v : List ℕ) → T (fifteen s) → T (leb 2 (formOf s)) → T (meets current s v) → length v ≤ 246
 unfolding formOf meets
 short-value number v d f t = omega (arith, eqb→eq (length v) 4 t)
 short-value address v d f t = omega (arith, eqb→eq (length v) 4 t)
@@ -120,7 +121,7 @@ short-value (digits a b) v d f t =
     omega arith
 short-value hexadecimal v d f t = omega (arith, eqb→eq (length v) 16 (parts (eqb (length v) 16) (all isHex v) t .0))
 short-value qos v d f t =
-    ⊎-elim (λ u. omega (arith, released 57 56 6 v u .long)) (λ u. omega (arith, released 57 57 22 v u .long)) (either (release 57 56 6 v) (release 57 57 22 v) t)
+    ⊎-elim (λ u. omega (arith, released current 57 56 6 v u .long)) (λ u. omega (arith, released current 57 57 22 v u .long)) (either (release current 57 56 6 v) (release current 57 57 22 v) t)
 short-value hexDigit v d f t = omega (arith, eqb→eq (length v) 1 (parts (eqb (length v) 1) (all isHex v) t .0))
 short-value anyOctet v d f t = omega (arith, eqb→eq (length v) 1 t)
 short-value decimalDigit v d f t = omega (arith, eqb→eq (length v) 1 (parts (eqb (length v) 1) (all isDigit v) t .0))
@@ -147,7 +148,7 @@ short-carried n v f h = go (isPlain n)
     go false = passes _ (le-leb (length v) 246 h)
 
 -- In form 4 the value has as many digits as are counted.
-digits-counted : (s : Shape) (c : ℕ) (st : List ℕ) → formOf s ≡ 4 → length st ≡ packedLength c → length (valueOf s c st) ≡ c
+digits-counted : (s : Shape) (c : ℕ) (st : List ℕ) → formOf s ≡ 4 → length st ≡ packedLength c → length (valueOf current s c st) ≡ c
 unfolding formOf valueOf
 digits-counted number c st e n = absurd (omega arith)
 digits-counted address c st e n = absurd (omega arith)
@@ -162,64 +163,64 @@ digits-counted (exactly k) c st e n = absurd (omega arith)
 digits-counted blocks c st e n = absurd (omega arith)
 digits-counted free c st e n = absurd (omega arith)
 
-decoded : (n : ℕ) (v : List ℕ) → T (leb 2 (formOf (shapeOf n))) → T (meets (shapeOf n) v)
-    → (form n v ≡ formOf (shapeOf n)) × (stored n v ≡ storedOf (shapeOf n) v)
+decoded : (n : ℕ) (v : List ℕ) → T (leb 2 (formOf (shapeOf n))) → T (meets current (shapeOf n) v)
+    → (form current n v ≡ formOf (shapeOf n)) × (stored current n v ≡ storedOf current (shapeOf n) v)
 unfolding form stored decodes
-decoded n v f t = let e = is-true (leb 2 (formOf (shapeOf n)) && meets (shapeOf n) v) (both (leb 2 (formOf (shapeOf n))) (meets (shapeOf n) v) f t) in (rw e, rw e)
+decoded n v f t = let e = is-true (leb 2 (formOf (shapeOf n)) && meets current (shapeOf n) v) (both (leb 2 (formOf (shapeOf n))) (meets current (shapeOf n) v) f t) in (rw e, rw e)
 
-module _ (t s f c : ℕ) (st : List ℕ) (octet : t < 256) (long : length st ≡ storedLength f c) where
+module _ (t s f c : ℕ) (st : List ℕ) (octet : t < 256) (long : length st ≡ storedLength current f c) where
   -- the number that the head names, and the value that its shape has for the octets
   abbrev numbered : ℕ
   numbered = numberIn t s f
 
   abbrev stood : List ℕ
-  stood = valueOf (shapeOf numbered) c st
+  stood = valueOf current (shapeOf numbered) c st
 
-  digits-count : formOf (shapeOf numbered) ≡ f → form numbered stood ≡ f → f ≡ 4 → count numbered stood ≡ c
+  digits-count : formOf (shapeOf numbered) ≡ f → form current numbered stood ≡ f → f ≡ 4 → count current numbered stood ≡ c
   unfolding count
   digits-count fe e g =
-      rw (eq-eqb (form numbered stood) 4 (e ∙ g))
+      rw (eq-eqb (form current numbered stood) 4 (e ∙ g))
       (digits-counted (shapeOf numbered) c st (fe ∙ g) (long ∙ rw (eq-eqb f 4 g)))
 
-  other-count : form numbered stood ≡ f → stored numbered stood ≡ st → eqb f 4 ≡ false → count numbered stood ≡ c
+  other-count : form current numbered stood ≡ f → stored current numbered stood ≡ st → eqb f 4 ≡ false → count current numbered stood ≡ c
   unfolding count
   other-count e k g = rw (e, g, k) (long ∙ rw g)
 
-  there : 2 ≤ f → T (carries numbered stood && same (item numbered stood) (t ∷ s ∷ f ∷ c ∷ st))
+  there : 2 ≤ f → T (carries numbered stood && same (item current numbered stood) (t ∷ s ∷ f ∷ c ∷ st))
       → T (eqb (subOf numbered) s && shaped (shapeOf numbered) f c st)
   unfolding shaped held
   there high p =
-      let h = headed numbered stood t s f c st (same-one (item numbered stood) (t ∷ s ∷ f ∷ c ∷ st) (parts (carries numbered stood) (same (item numbered stood) (t ∷ s ∷ f ∷ c ∷ st)) p .1)) in
-      both (eqb (subOf numbered) s) _ (passes _ (eq-eqb (subOf numbered) s (h .sub-is))) (go h (either-way numbered stood))
+      let h = headed numbered stood t s f c st (same-one (item current numbered stood) (t ∷ s ∷ f ∷ c ∷ st) (parts (carries numbered stood) (same (item current numbered stood) (t ∷ s ∷ f ∷ c ∷ st)) p .1)) in
+      both (eqb (subOf numbered) s) _ (passes _ (eq-eqb (subOf numbered) s (h .sub-is))) (go h (either-way current numbered stood))
     where
-      go : Headed numbered stood t s f c st → Decoded numbered stood ⊎ Plainly numbered stood
-          → T (eqb (formOf (shapeOf numbered)) f && (leb 2 (formOf (shapeOf numbered)) && (meets (shapeOf numbered) stood && same (storedOf (shapeOf numbered) stood) st)))
+      go : Headed numbered stood t s f c st → Decoded current numbered stood ⊎ Plainly current numbered stood
+          → T (eqb (formOf (shapeOf numbered)) f && (leb 2 (formOf (shapeOf numbered)) && (meets current (shapeOf numbered) stood && same (storedOf current (shapeOf numbered) stood) st)))
       go h (inl d) =
           both (eqb (formOf (shapeOf numbered)) f) _ (passes _ (eq-eqb (formOf (shapeOf numbered)) f (sym (d .form-is) ∙ h .form-is)))
           (both (leb 2 (formOf (shapeOf numbered))) _ (d .own)
-          (both (meets (shapeOf numbered) stood) _ (d .met) (rw (sym (d .stored-is) ∙ h .stored-is) (same-itself st))))
+          (both (meets current (shapeOf numbered) stood) _ (d .met) (rw (sym (d .stored-is) ∙ h .stored-is) (same-itself st))))
       go h (inr p) = absurd (let e = p .form-is in let g = h .form-is in omega (arith, raw-low (isPlain numbered)))
 
   back : 2 ≤ f → T (eqb (subOf numbered) s && shaped (shapeOf numbered) f c st)
-      → T (carries numbered stood && same (item numbered stood) (t ∷ s ∷ f ∷ c ∷ st))
+      → T (carries numbered stood && same (item current numbered stood) (t ∷ s ∷ f ∷ c ∷ st))
   unfolding shaped held
   back high p =
-      let q = parts (eqb (subOf numbered) s) (eqb (formOf (shapeOf numbered)) f && (leb 2 (formOf (shapeOf numbered)) && (meets (shapeOf numbered) stood && same (storedOf (shapeOf numbered) stood) st))) p in
-      let r = parts (eqb (formOf (shapeOf numbered)) f) (leb 2 (formOf (shapeOf numbered)) && (meets (shapeOf numbered) stood && same (storedOf (shapeOf numbered) stood) st)) (q .1) in
-      let u = parts (leb 2 (formOf (shapeOf numbered))) (meets (shapeOf numbered) stood && same (storedOf (shapeOf numbered) stood) st) (r .1) in
-      let w = parts (meets (shapeOf numbered) stood) (same (storedOf (shapeOf numbered) stood) st) (u .1) in
+      let q = parts (eqb (subOf numbered) s) (eqb (formOf (shapeOf numbered)) f && (leb 2 (formOf (shapeOf numbered)) && (meets current (shapeOf numbered) stood && same (storedOf current (shapeOf numbered) stood) st))) p in
+      let r = parts (eqb (formOf (shapeOf numbered)) f) (leb 2 (formOf (shapeOf numbered)) && (meets current (shapeOf numbered) stood && same (storedOf current (shapeOf numbered) stood) st)) (q .1) in
+      let u = parts (leb 2 (formOf (shapeOf numbered))) (meets current (shapeOf numbered) stood && same (storedOf current (shapeOf numbered) stood) st) (r .1) in
+      let w = parts (meets current (shapeOf numbered) stood) (same (storedOf current (shapeOf numbered) stood) st) (u .1) in
       let fe : formOf (shapeOf numbered) ≡ f = eqb→eq (formOf (shapeOf numbered)) f (r .0) in
-      let se : storedOf (shapeOf numbered) stood ≡ st = same-one (storedOf (shapeOf numbered) stood) st (w .1) in
+      let se : storedOf current (shapeOf numbered) stood ≡ st = same-one (storedOf current (shapeOf numbered) stood) st (w .1) in
       let d = decoded numbered stood (u .0) (w .0) in
-      both (carries numbered stood) (same (item numbered stood) (t ∷ s ∷ f ∷ c ∷ st))
+      both (carries numbered stood) (same (item current numbered stood) (t ∷ s ∷ f ∷ c ∷ st))
       (short-carried numbered stood (u .0) (short-value (shapeOf numbered) stood (at-most-fifteen numbered) (u .0) (w .0)))
       (says numbered stood t s f c st (type-in t s f octet)
       (record { sub-is = eqb→eq (subOf numbered) s (q .0); form-is = d .0 ∙ fe; count-is = counted fe (d .0 ∙ fe) (d .1 ∙ se); stored-is = d .1 ∙ se }))
     where
-      counted : formOf (shapeOf numbered) ≡ f → form numbered stood ≡ f → stored numbered stood ≡ st → count numbered stood ≡ c
+      counted : formOf (shapeOf numbered) ≡ f → form current numbered stood ≡ f → stored current numbered stood ≡ st → count current numbered stood ≡ c
       counted fe e k = go (eqb f 4) refl
         where
-          go : (b : Bool) → eqb f 4 ≡ b → count numbered stood ≡ c
+          go : (b : Bool) → eqb f 4 ≡ b → count current numbered stood ≡ c
           go true g = digits-count fe e (eqb-true f 4 g)
           go false g = other-count e k g
 

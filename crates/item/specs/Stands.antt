@@ -5,17 +5,18 @@ use mathlib.Core.Bool.{Bool, false, cond, not, _&&_}
 use mathlib.Core.List.{List, _∷_}
 use lib.Dec.{eqb, leb, ltb}
 use lib.ListN.{length, take}
+use Rattle.meaning.specs.Versions.{current}
 use Rattle.meaning.specs.Octets.{between, same, numberOf}
-use Rattle.meaning.specs.Framing.{isPlain, vendor3gpp}
+use Rattle.meaning.specs.Framing.{isPlain, vendor3gpp, carries}
 use Rattle.meaning.specs.Shapes.{Shape, number, address, digits, hexadecimal, qos, hexDigit, anyOctet, decimalDigit, atLeast, exactly, blocks, free, shapeOf, meets}
-use Rattle.meaning.specs.Sheet.{formOf, storedOf, valueOf, item, carries, numberIn, valueIn}
+use Rattle.meaning.specs.Sheet.{formOf, storedOf, valueOf, item, numberIn, valueIn}
 use Rattle.shape.specs.Codes.{codeOf, shapeBy}
 
 -- some readable attribute gives the item of this head and these stored octets
 unfoldable pub standsFor : (type sub form count : ℕ) → List ℕ → Bool
 standsFor t s f c st =
-    carries (numberIn t s f) (valueIn (numberIn t s f) f c st)
-    && same (item (numberIn t s f) (valueIn (numberIn t s f) f c st)) (t ∷ s ∷ f ∷ c ∷ st)
+    carries (numberIn t s f) (valueIn current (numberIn t s f) f c st)
+    && same (item current (numberIn t s f) (valueIn current (numberIn t s f) f c st)) (t ∷ s ∷ f ∷ c ∷ st)
 
 -- "another vendor's type 26, id included"
 unfoldable pub otherVendor : List ℕ → Bool
@@ -24,7 +25,7 @@ otherVendor v = leb 5 (length v) && not (eqb (numberOf (take 4 v)) vendor3gpp)
 -- a value stands as it is, in form 0 or 1: an attribute carries it, and it meets no shape that has a form of its own. The number's shape
 -- is told by its code; the shapes from code 20 on have such a form
 unfoldable pub raw : (number code form : ℕ) → List ℕ → Bool
-raw n code f v = eqb (cond (isPlain n) 0 1) f && (not (leb 20 code && meets (shapeBy code) v) && carries n v)
+raw n code f v = eqb (cond (isPlain n) 0 1) f && (not (leb 20 code && meets current (shapeBy code) v) && carries n v)
 
 -- a shape is of digits, and takes so many
 unfoldable pub takesDigits : Shape → (count : ℕ) → Bool
@@ -43,7 +44,7 @@ takesDigits free c = false
 
 -- a shape has a form of its own, and the octets are what it stores of the value that they stand for
 unfoldable pub held : Shape → (count : ℕ) → List ℕ → Bool
-held s c st = leb 2 (formOf s) && (meets s (valueOf s c st) && same (storedOf s (valueOf s c st)) st)
+held s c st = leb 2 (formOf s) && (meets current s (valueOf current s c st) && same (storedOf current s (valueOf current s c st)) st)
 
 -- the same of a shape whose form is this one
 unfoldable pub shaped : Shape → (form count : ℕ) → List ℕ → Bool

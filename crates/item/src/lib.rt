@@ -7,7 +7,7 @@ ghost use lib.Dec.{eqb, leb};
 ghost use lib.ListN.{length, getD};
 ghost use Rattle.meaning.specs.Shapes.{qos};
 ghost use Rattle.meaning.specs.Sheet.{numberIn};
-ghost use Rattle.meaning.specs.Sheet as meant;
+ghost use Rattle.meaning.specs.Framing as framing;
 ghost use Rattle.shape.specs.Codes.{shapeBy};
 ghost use Rattle.item.specs.Stands.{otherVendor, takesDigits, held, shaped, raw};
 ghost use Rattle.item.specs.Answers.{headedAt, headRefused};
@@ -59,7 +59,7 @@ fn other_vendor(value: &[u8]) -> bool
 
 // Whether a readable attribute carries the number with this value.
 pub fn carries(number: u16, value: &[u8]) -> bool
-    ensures { λ r. ⌜ r ≡ meant.carries number (now (value .entry)) ⌝ }
+    ensures { λ r. ⌜ r ≡ framing.carries number (now (value .entry)) ⌝ }
 {
     if 256 <= number {
         return value.len() <= 246;

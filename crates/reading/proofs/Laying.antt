@@ -8,7 +8,9 @@ use lib.Dec.{eqb}
 use lib.ListN.{length, take, drop, getD, set, length-take, length-drop}
 use lib.Seq.{take-all, length-take-le}
 use borrow.Author.Tests.{eq-eqb, ne-eqb, lt-ltb, le-ltb}
+use Rattle.meaning.specs.Versions.{current}
 use Rattle.meaning.specs.Octets.{octetsOf, pack, packedLength, digitValue}
+use Rattle.meaning.specs.Sheet.{sheetHead}
 use Rattle.octets.specs.Parts.{partOf, laidAt, Begun}
 use Rattle.octets.specs.DigitStrings.{halves, eightOf, packedOf}
 use Rattle.octets.specs.declared.Digits.{Digits}
@@ -20,7 +22,7 @@ use Rattle.area.specs.declared.Part.{Part}
 use Rattle.shape.specs.declared.Item.{Item}
 use Rattle.shape.specs.declared.Value.the-variants as is
 use Rattle.shape.specs.Items.{storedPart, storedValue, storedIn}
-use Rattle.reading.specs.Items.{namesOf, itemIn, Within, LaidCounted, sheetHead}
+use Rattle.reading.specs.Items.{namesOf, itemIn, Within, LaidCounted}
 
 -- A writer of exactly the octets s, which have room there, has put them.
 pub put-laid : (at n : ℕ) (s t d out : List ℕ) → t ≡ s → n ≡ length s → at + length t ≤ length d → out ≡ laidAt at s d
@@ -206,6 +208,6 @@ gpp-names n at d h room = laid-as at (26 ∷ (n - 256) ∷ []) _ d _ (rw (le-ltb
 
 -- the head of a sheet, with the number of items in two octets
 pub head-laid : (kind flags count : ℕ) (many : List ℕ) → many ≡ octetsOf 2 count
-    → 71 ∷ 73 ∷ 82 ∷ 0 ∷ 1 ∷ kind ∷ flags ∷ getD many 0 0 ∷ getD many 1 0 ∷ [] ≡ sheetHead kind flags count
+    → 71 ∷ 73 ∷ 82 ∷ 0 ∷ 1 ∷ kind ∷ flags ∷ getD many 0 0 ∷ getD many 1 0 ∷ [] ≡ sheetHead current kind flags count
 unfolding sheetHead octetsOf
 head-laid kind flags count many e = rw e

@@ -7,6 +7,7 @@ use native.Mathlib.Omega.{arith}
 use lib.Dec.{eqb}
 use lib.ListN.{length, drop, length-append, length-drop}
 use lib.Seq.{length-take-le}
+use Rattle.meaning.specs.Versions.{current}
 use Rattle.meaning.specs.Octets.{Octets, numberOf}
 use Rattle.meaning.specs.Framing.{Walk, end, broken, walk, walkAt, attributes}
 use Rattle.meaning.specs.Refusals.{fault}
@@ -35,7 +36,7 @@ use Rattle.reading.specs.Items.{namesOf, itemIn, Within, LaidCounted, ar
 pub record Passing (l d out : List ℕ) (place count written : ℕ) : Type 0 where
   pub passed : framing.Passed l count place
   pub gone : List ℕ
-  pub whole : areaItems l ≡ gone ++ itemsOf (attributes (walkAt l place))
+  pub whole : areaItems l ≡ gone ++ itemsOf current (attributes (walkAt l place))
   pub long : length gone ≡ written
   pub few : written ≤ 2 * place
   pub held : Begun 0 gone d out
@@ -53,7 +54,7 @@ passing-none l d =
     }
 
 -- the item that the meaning has for an attribute is the one that is made of it
-item-meant : (l : List ℕ) (n : ℕ) (p : Part) → Octets l → itemIn l (itemAt l n p) ≡ item n (partOf l (p .start) (p .len))
+item-meant : (l : List ℕ) (n : ℕ) (p : Part) → Octets l → itemIn l (itemAt l n p) ≡ item current n (partOf l (p .start) (p .len))
 unfolding itemIn namesOf
 item-meant l n p o = item-as-meant l n p o
 
@@ -80,16 +81,16 @@ module _ (l : List ℕ) (place n : ℕ) (p : Part) (behind : ℕ) (g : Stands l 
   unfolding partOf
   value-long = length-take-le (p .len) (drop (p .start) l) (omega (arith, length-drop (p .start) l, g .ends, g .inside))
 
-  walks-on : itemsOf (attributes (walkAt l place)) ≡ item n (valueIn l p) ++ itemsOf (attributes (walkAt l behind))
+  walks-on : itemsOf current (attributes (walkAt l place)) ≡ item current n (valueIn l p) ++ itemsOf current (attributes (walkAt l behind))
   unfolding itemsOf attributes partOf
-  walks-on = ap (λ (w : Walk). itemsOf (attributes w)) (g .walks)
+  walks-on = ap (λ (w : Walk). itemsOf current (attributes w)) (g .walks)
 
-  item-size : length (item n (valueIn l p)) ≡ 4 + length (stored n (valueIn l p))
+  item-size : length (item current n (valueIn l p)) ≡ 4 + length (stored current n (valueIn l p))
   unfolding item
   item-size = omega arith
 
-  item-bound : length (item n (valueIn l p)) + 2 * place ≤ 2 * behind
-  item-bound = omega (arith, item-size, stored-le n (valueIn l p), value-long, g .onwards, g .starts, g .ends)
+  item-bound : length (item current n (valueIn l p)) + 2 * place ≤ 2 * behind
+  item-bound = omega (arith, item-size, stored-le current n (valueIn l p), value-long, g .onwards, g .starts, g .ends)
 
   -- its number is carried
   pub number-low : n < 512
@@ -108,7 +109,7 @@ module _ (l : List ℕ) (place n : ℕ) (p : Part) (behind : ℕ) (g : Stands l 
     -- its count is an octet
     pub item-count : i .count < 256
     unfolding itemAt itemFor partOf
-    item-count = subst (λ (j : Item). j .count < 256) (sym item-made) (count-fits _ (g .carried o))
+    item-count = subst (λ (j : Item). j .count < 256) (sym item-made) (count-fits current _ (g .carried o))
 
     -- its plain octets lie in the area
     pub item-within : Within l i
@@ -117,11 +118,11 @@ module _ (l : List ℕ) (place n : ℕ) (p : Part) (behind : ℕ) (g : Stands l 
         let v : List ℕ = valueIn l p in
         subst (Within l) (sym item-made)
         (record {
-          inside = λ q h. omega (arith, ap (λ (r : Part). r .start + r .len) (plain-part (form n v) v (stored n v) p q h), g .ends, g .inside);
-          released = λ q h six. omega (arith, ap (λ (r : Part). r .len) (plain-part (form n v) v (stored n v) p q h), value-long, formed-as n v 6 six .long);
+          inside = λ q h. omega (arith, ap (λ (r : Part). r .start + r .len) (plain-part (form current n v) v (stored current n v) p q h), g .ends, g .inside);
+          released = λ q h six. omega (arith, ap (λ (r : Part). r .len) (plain-part (form current n v) v (stored current n v) p q h), value-long, formed-as n v 6 six .long);
         })
 
-    octets-are : itemIn l i ≡ item n (valueIn l p)
+    octets-are : itemIn l i ≡ item current n (valueIn l p)
     octets-are = ap (itemIn l) item-made ∙ item-meant l n p o
 
     module _ (d out : List ℕ) (count written : ℕ) (k : Passing l d out place count written) where
@@ -155,8 +156,8 @@ module _ (l : List ℕ) (place n : ℕ) (p : Part) (behind : ℕ) (g : Stands l 
                 passed = framing.passed-more l count place (k .passed) n p behind g;
                 gone = k .gone ++ itemIn l i;
                 whole =
-                    k .whole ∙ ap (λ (s : List ℕ). k .gone ++ s) (walks-on ∙ ap (λ (s : List ℕ). s ++ itemsOf (attributes (walkAt l behind))) (sym octets-are))
-                    ∙ sym (append-assoc (k .gone) (itemIn l i) (itemsOf (attributes (walkAt l behind))));
+                    k .whole ∙ ap (λ (s : List ℕ). k .gone ++ s) (walks-on ∙ ap (λ (s : List ℕ). s ++ itemsOf current (attributes (walkAt l behind))) (sym octets-are))
+                    ∙ sym (append-assoc (k .gone) (itemIn l i) (itemsOf current (attributes (walkAt l behind))));
                 long = omega (arith, length-append (k .gone) (itemIn l i), k .long, put .says);
                 few = omega (arith, put .says, item-inside);
                 held = begun-on 0 written (k .gone) (itemIn l i) d out after (omega (arith, k .long)) (k .held) (put .holds);
@@ -168,7 +169,7 @@ module _ (l d out : List ℕ) (place count written : ℕ) (k : Passing l d out p
   pub passing-done : walkAt l place ≡ end → PassSays l (Whole count written) out
   unfolding PassSays itemsOf attributes fault
   passing-done h =
-      let all : areaItems l ≡ k .gone = k .whole ∙ ap (λ (w : Walk). k .gone ++ itemsOf (attributes w)) h ∙ append-nil (k .gone) in
+      let all : areaItems l ≡ k .gone = k .whole ∙ ap (λ (w : Walk). k .gone ++ itemsOf current (attributes w)) h ∙ append-nil (k .gone) in
       record {
         sound = k .passed .same-fault ∙ ap fault h;
         counts = omega (arith, k .passed .counted, ap (λ (w : Walk). length (attributes w)) h);

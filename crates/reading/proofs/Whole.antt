@@ -5,10 +5,11 @@ use Prim.Native.Nat.{ℕ, _+_, _*_, _≤_, _<_}
 use native.Mathlib.Omega.{arith}
 use lib.ListN.{length, take, length-append}
 use lib.Seq.{length-take-le}
+use Rattle.meaning.specs.Versions.{current}
 use Rattle.meaning.specs.Octets.{Octets, octetsOf}
 use Rattle.meaning.specs.Framing.{walk, attributes}
 use Rattle.meaning.specs.Refusals.{none, fault, areaRefusal, areaOrder}
-use Rattle.meaning.specs.Sheet.{sheetWith, sheetOf, Readable}
+use Rattle.meaning.specs.Sheet.{sheetWith, sheetOf, Readable, sheetAs, sheetHead}
 use Rattle.meaning.specs.Answers.{Answer, refused, over, after, readAnswer, Promise}
 use Rattle.meaning.proofs.Sheets.{clear}
 use Rattle.meaning.proofs.Bounds.{sheet-bound, items-fit, kind-octet, flags-octet}
@@ -24,16 +25,16 @@ use Rattle.reading.specs.declared.Reading.{Reading}
 use Rattle.reading.specs.declared.Reading.the-variants.{Sheet, Refused}
 use Rattle.reading.specs.declared.Tally.{Tally}
 use Rattle.reading.specs.declared.Tally.the-variants.{Whole, Broken}
-use Rattle.reading.specs.Items.{sheetHead, areaItems, ItemsLaid, PassSays, Concluding}
+use Rattle.reading.specs.Items.{areaItems, ItemsLaid, PassSays, Concluding}
 use Rattle.reading.specs.Answers.{readingOf, Read}
 
 -- a sheet is its head and its items
 sheet-parts : (kind flags count : ℕ) (area : List ℕ) → count ≡ length (attributes (walk area))
-    → sheetOf kind flags area ≡ sheetHead kind flags count ++ areaItems area
-unfolding sheetOf sheetWith sheetHead areaItems octetsOf
+    → sheetOf kind flags area ≡ sheetHead current kind flags count ++ areaItems area
+unfolding sheetAs sheetWith sheetHead areaItems octetsOf
 sheet-parts kind flags count area e = rw e
 
-head-long : (kind flags count : ℕ) → length (sheetHead kind flags count) ≡ 9
+head-long : (kind flags count : ℕ) → length (sheetHead current kind flags count) ≡ 9
 unfolding sheetHead octetsOf
 head-long kind flags count = refl
 
@@ -46,22 +47,22 @@ refused-read kind flags area x d e = record { says = rw e; holds = rw e }
 -- ---- Handing over
 
 module _ (kind flags count : ℕ) (items d : List ℕ) where
-  whole-long : length (sheetHead kind flags count ++ items) ≡ 9 + length items
-  whole-long = length-append (sheetHead kind flags count) items ∙ omega (arith, head-long kind flags count)
+  whole-long : length (sheetHead current kind flags count ++ items) ≡ 9 + length items
+  whole-long = length-append (sheetHead current kind flags count) items ∙ omega (arith, head-long kind flags count)
 
   -- refusal 9: nothing was written
   pub no-room : length d < 9 + length items
-      → Handed readingOf 9 (sheetHead kind flags count ++ items) d (readingOf (refused 9 (9 + length items))) d
-  no-room h = rw (sym whole-long) (handed-not readingOf 9 (sheetHead kind flags count ++ items) d (omega (arith, whole-long)))
+      → Handed readingOf 9 (sheetHead current kind flags count ++ items) d (readingOf (refused 9 (9 + length items))) d
+  no-room h = rw (sym whole-long) (handed-not readingOf 9 (sheetHead current kind flags count ++ items) d (omega (arith, whole-long)))
 
   -- the head over the buffer's start, the items right behind it
-  pub both-laid : (head headed held : List ℕ) → head ≡ sheetHead kind flags count → 9 + length items ≤ length d
+  pub both-laid : (head headed held : List ℕ) → head ≡ sheetHead current kind flags count → 9 + length items ≤ length d
       → headed ≡ laidAt 0 head d → held ≡ laidAt 9 items headed
-      → Handed readingOf 9 (sheetHead kind flags count ++ items) d (Sheet (9 + length items)) held
+      → Handed readingOf 9 (sheetHead current kind flags count ++ items) d (Sheet (9 + length items)) held
   both-laid head headed held is room first behind =
       let nine : length head ≡ 9 = ap length is ∙ head-long kind flags count in
       let all : held ≡ over (head ++ items) d = behind ∙ laid-behind head items d headed 9 nine (first ∙ laid-first head d (omega arith)) room in
-      rw (sym whole-long) (handed-over readingOf 9 (sheetHead kind flags count ++ items) d held (omega (arith, whole-long)) (rw is at all))
+      rw (sym whole-long) (handed-over readingOf 9 (sheetHead current kind flags count ++ items) d held (omega (arith, whole-long)) (rw is at all))
 
 -- ---- The pass
 
@@ -92,8 +93,8 @@ module _ (kind flags : ℕ) (area : List ℕ) (r : Tally) (made : List ℕ) (k :
     accepted : areaRefusal kind flags area ≡ none
     accepted = left ∙ laid .sound
 
-    sheet-is : sheetHead kind flags count ++ take written made ≡ sheetOf kind flags area
-    sheet-is = ap (λ (l : List ℕ). sheetHead kind flags count ++ l) (laid .holds) ∙ sym (sheet-parts kind flags count area (laid .counts))
+    sheet-is : sheetHead current kind flags count ++ take written made ≡ sheetOf kind flags area
+    sheet-is = ap (λ (l : List ℕ). sheetHead current kind flags count ++ l) (laid .holds) ∙ sym (sheet-parts kind flags count area (laid .counts))
 
     -- what handing over asks for
     pub bounded : Octets area → (kind < 256) × (flags < 256) × (count < 65536) × (length (take written made) ≤ 8152)
@@ -104,9 +105,9 @@ module _ (kind flags : ℕ) (area : List ℕ) (r : Tally) (made : List ℕ) (k :
 
     -- what is handed over is what reading answers
     pub handed-read : (items d : List ℕ) (said : Reading) (held : List ℕ) → items ≡ take written made
-        → Handed readingOf 9 (sheetHead kind flags count ++ items) d said held → Read kind flags area d said held
+        → Handed readingOf 9 (sheetHead current kind flags count ++ items) d said held → Read kind flags area d said held
     unfolding readAnswer areaOrder handing
     handed-read items d said held e h =
-        let same : sheetHead kind flags count ++ items ≡ sheetOf kind flags area = rw e sheet-is in
+        let same : sheetHead current kind flags count ++ items ≡ sheetOf kind flags area = rw e sheet-is in
         let answer : handing 9 (sheetOf kind flags area) (length d) ≡ readAnswer kind flags area (length d) = rw accepted in
         subst (λ (a : Answer (List ℕ)). Promise (readingOf a) a d said held) answer (rw same at h)

@@ -13,5 +13,4 @@ readingOf (meant.refused n k) = Refused (record { number = n; second = k })
 
 -- what reading answers, and what the lent buffer holds then
 abbrev pub Read : (kind flags : ℕ) (area buffer : List ℕ) (said : Reading) (held : List ℕ) → Type 0
-Read kind flags area buffer said held =
-    meant.Promise (readingOf (meant.readAnswer kind flags area (length buffer))) (meant.readAnswer kind flags area (length buffer)) buffer said held
+Read = meant.Reads readingOf

@@ -3,10 +3,11 @@ use Prim.Native.Nat.{ℕ, _+_, _*_, _≤_}
 use mathlib.Core.Path.{_≡_}
 use mathlib.Core.List.{List, [], _∷_, _++_}
 use lib.ListN.{length, take}
+use Rattle.meaning.specs.Versions.{current}
 use Rattle.meaning.specs.Octets.{octetsOf}
 use Rattle.meaning.specs.Framing.{walk, attributes}
 use Rattle.meaning.specs.Refusals.{none, fault}
-use Rattle.meaning.specs.Sheet.{typeOf, subOf, mark, itemsOf}
+use Rattle.meaning.specs.Sheet.{typeOf, subOf, itemsOf}
 use Rattle.octets.specs.Parts.{Begun}
 use Rattle.area.specs.declared.Part.{Part}
 use Rattle.area.specs.declared.Arrival.the-variants.{Fit}
@@ -35,13 +36,9 @@ pub record LaidCounted (at : ℕ) (s d : List ℕ) (said : ℕ) (held : List ℕ
   pub says : said ≡ length s
   pub holds : Begun at s d held
 
--- "Nine octets: mark GIR (47 49 52), version 1 as 16 bits, kind, flags, number of items as 16 bits"
-unfoldable pub sheetHead : (kind flags count : ℕ) → List ℕ
-sheetHead kind flags count = mark ++ kind ∷ flags ∷ octetsOf 2 count
-
 -- the items of an area, one behind the other
 unfoldable pub areaItems : (area : List ℕ) → List ℕ
-areaItems area = itemsOf (attributes (walk area))
+areaItems area = itemsOf current (attributes (walk area))
 
 -- what a pass over a well framed area says: how many items it has and how many octets these are; and what the buffer starts with
 -- then, the items

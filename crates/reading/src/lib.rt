@@ -11,14 +11,16 @@ ghost use mathlib.Core.List.{List, [], _∷_, _++_};
 ghost use Prim.Native.Nat.{ℕ, _+_, _-_, _*_, _%_, _≤_, _<_};
 ghost use lib.Dec.{eqb};
 ghost use lib.ListN.{length, take, drop, getD};
+ghost use Rattle.meaning.specs.Versions.{current};
 ghost use Rattle.meaning.specs.Octets.{octetsOf, pack, packedLength, digitValue};
+ghost use Rattle.meaning.specs.Sheet.{sheetHead};
 ghost use Rattle.octets.specs.Parts.{laidAt, Begun};
 ghost use Rattle.octets.specs.Handing.{Handed};
 ghost use Rattle.octets.specs.DigitStrings.{halves};
 ghost use Rattle.area.specs.Answers.{arrivalOf};
 ghost use Rattle.area.specs.declared.Arrival.the-variants.{Fit};
 ghost use Rattle.shape.specs.Items.{storedPart, storedIn};
-ghost use Rattle.reading.specs.Items.{namesOf, itemIn, Within, LaidCounted, sheetHead, PassSays, Concluding};
+ghost use Rattle.reading.specs.Items.{namesOf, itemIn, Within, LaidCounted, PassSays, Concluding};
 ghost use Rattle.reading.specs.Answers.{readingOf, Read};
 
 // "A sheet is never longer than 9 + 2 x area length": room for the items of any area, of up to 4,076 octets, and for sixteen octets more.
@@ -215,7 +217,7 @@ fn put_items(area: &[u8], buf: &mut [u8]) -> Tally
 // "Nine octets: mark GIR (47 49 52), version 1 as 16 bits, kind, flags, number of items as 16 bits".
 fn sheet_head(kind: u32, flags: u32, count: usize) -> [u8; 9]
     requires { ⌜ (kind < 256) × (flags < 256) × (count < 65536) ⌝ }
-    ensures { λ r. ⌜ r ≡ sheetHead kind flags count ⌝ }
+    ensures { λ r. ⌜ r ≡ sheetHead current kind flags count ⌝ }
 {
     let many = octets::u16_octets(count as u16);
     [
@@ -234,7 +236,7 @@ fn sheet_head(kind: u32, flags: u32, count: usize) -> [u8; 9]
 // Lays a sheet, its head and its items, at the buffer's start; or refusal 9 where it has not the room.
 fn hand_over(kind: u32, flags: u32, count: usize, items: &[u8], sheet: &mut [u8]) -> Reading
     requires { ⌜ (kind < 256) × (flags < 256) × (count < 65536) × (length (now items) ≤ 8152) ⌝ }
-    ensures { λ r. ⌜ Handed readingOf 9 (sheetHead kind flags count ++ now (items .entry)) (now (sheet .entry)) r (now (sheet .exit)) ⌝ }
+    ensures { λ r. ⌜ Handed readingOf 9 (sheetHead current kind flags count ++ now (items .entry)) (now (sheet .entry)) r (now (sheet .exit)) ⌝ }
 {
     let needed = 9 + items.len();
     if sheet.len() < needed {

@@ -9,6 +9,7 @@ use native.Mathlib.Omega.{arith}
 use lib.Dec.{T, eqb, leb, eqb→eq, leb→le}
 use borrow.Author.Tests.{lt-leb, le-leb}
 use lib.ListN.{length, drop, getD, length-drop}
+use Rattle.meaning.specs.Versions.{current}
 use Rattle.meaning.specs.Octets.{between, all, isDigit, isHex, digitValue, values, pack, packedLength}
 use Rattle.meaning.specs.Framing.{isPlain}
 use Rattle.meaning.specs.Shapes.{Shape, number, address, digits, hexadecimal, qos, hexDigit, anyOctet, decimalDigit, atLeast, exactly, blocks, free, shapeOf, release, meets}
@@ -22,11 +23,11 @@ use Rattle.shape.proofs.Codes.{shape-back, form-in-code, fifteen, at-mo
 -- ---- The form, by the shape
 
 module _ (n : ℕ) (v : List ℕ) (s : Shape) (is : shapeOf n ≡ s) where
-  pub form-own : 2 ≤ formOf s → meets s v ≡ true → form n v ≡ formOf s
+  pub form-own : 2 ≤ formOf s → meets current s v ≡ true → form current n v ≡ formOf s
   unfolding form decodes
   form-own h m = rw (is, le-leb 2 (formOf s) h, m)
 
-  pub form-raw : meets s v ≡ false → form n v ≡ cond (isPlain n) 0 1
+  pub form-raw : meets current s v ≡ false → form current n v ≡ cond (isPlain n) 0 1
   unfolding form decodes
   form-raw m = rw (is, m, and-false (leb 2 (formOf s)))
 
@@ -42,14 +43,14 @@ module _ (n code : ℕ) (is : code ≡ codeOf (shapeOf n)) where
   code-shape = ap shapeBy is ∙ shape-back n
 
 module _ (n : ℕ) (v : List ℕ) (code : ℕ) (is : code ≡ codeOf (shapeOf n)) where
-  pub form-without : code / 10 < 2 → form n v ≡ cond (isPlain n) 0 1
+  pub form-without : code / 10 < 2 → form current n v ≡ cond (isPlain n) 0 1
   unfolding form decodes
   form-without h = rw (lt-leb 2 (formOf (shapeOf n)) (omega (arith, own-form n code is)))
 
-  pub form-missed : meets (shapeBy code) v ≡ false → form n v ≡ cond (isPlain n) 0 1
+  pub form-missed : meets current (shapeBy code) v ≡ false → form current n v ≡ cond (isPlain n) 0 1
   form-missed = form-raw n v (shapeBy code) (sym (code-shape n code is))
 
-  pub form-met : 2 ≤ code / 10 → meets (shapeBy code) v ≡ true → form n v ≡ code / 10
+  pub form-met : 2 ≤ code / 10 → meets current (shapeBy code) v ≡ true → form current n v ≡ code / 10
   form-met h m =
       rw (own-form n code is)
       (form-own n v (shapeOf n) refl (omega (arith, own-form n code is)) (rw (code-shape n code is) at m))
@@ -99,9 +100,9 @@ Formed c f v s =
     (choose (eqb f 6) (Profile v s)
     (choose (eqb f 7) (One c v s) (s ≡ v))))))
 
-profile : (a b n : ℕ) (v : List ℕ) → T (release a b n v) → Profile v (storedOf qos v)
+profile : (a b n : ℕ) (v : List ℕ) → T (release current a b n v) → Profile v (storedOf current qos v)
 unfolding storedOf
-profile a b n v t = let r = released a b n v t in record { long = omega (arith, r .long); hexes = r .hexes; packed = refl }
+profile a b n v t = let r = released current a b n v t in record { long = omega (arith, r .long); hexes = r .hexes; packed = refl }
 
 low-digit : (v : List ℕ) → length v ≡ 1 → Hexes v → values v ≡ (digitValue (getD v 0 0) % 16) ∷ []
 unfolding values
@@ -115,7 +116,7 @@ one-octet [] l = absurd (omega arith)
 one-octet (x ∷ []) l = refl
 one-octet (x ∷ y ∷ v) l = absurd (omega arith)
 
-met-formed : (s : Shape) (v : List ℕ) → T (leb 2 (formOf s)) → T (meets s v) → T (fifteen s) → Formed (codeOf s) (formOf s) v (storedOf s v)
+met-formed : (s : Shape) (v : List ℕ) → T (leb 2 (formOf s)) → T (meets current s v) → T (fifteen s) → Formed (codeOf s) (formOf s) v (storedOf current s v)
 unfolding formOf meets storedOf codeOf
 met-formed number v f t d = record { long = eqb→eq (length v) 4 t; kept = refl }
 met-formed address v f t d = record { long = eqb→eq (length v) 4 t; kept = refl }
@@ -130,7 +131,7 @@ met-formed (digits a b) v f t d =
       packed = refl;
     }
 met-formed hexadecimal v f t d = record { hexes = parts (eqb (length v) 16) (all isHex v) t .1; packed = refl }
-met-formed qos v f t d = ⊎-elim (profile 57 56 6 v) (profile 57 57 22 v) (either (release 57 56 6 v) (release 57 57 22 v) t)
+met-formed qos v f t d = ⊎-elim (profile 57 56 6 v) (profile 57 57 22 v) (either (release current 57 56 6 v) (release current 57 57 22 v) t)
 met-formed hexDigit v f t d =
     let u = parts (eqb (length v) 1) (all isHex v) t in
     let l = eqb→eq (length v) 1 (u .0) in
@@ -150,21 +151,21 @@ plainly-formed true c v s e = e
 plainly-formed false c v s e = e
 
 -- The form of a value says what the value and its stored octets are.
-pub formed : (n : ℕ) (v : List ℕ) → Formed (codeOf (shapeOf n)) (form n v) v (stored n v)
+pub formed : (n : ℕ) (v : List ℕ) → Formed (codeOf (shapeOf n)) (form current n v) v (stored current n v)
 formed n v =
     ⊎-elim (λ d. rw (d .form-is, d .stored-is) (met-formed (shapeOf n) v (d .own) (d .met) (at-most-fifteen n)))
-    (λ p. rw (p .form-is) (plainly-formed (isPlain n) (codeOf (shapeOf n)) v (stored n v) (p .stored-is))) (either-way n v)
+    (λ p. rw (p .form-is) (plainly-formed (isPlain n) (codeOf (shapeOf n)) v (stored current n v) (p .stored-is))) (either-way current n v)
 
-pub formed-as : (n : ℕ) (v : List ℕ) (f : ℕ) → form n v ≡ f → Formed (codeOf (shapeOf n)) f v (stored n v)
+pub formed-as : (n : ℕ) (v : List ℕ) (f : ℕ) → form current n v ≡ f → Formed (codeOf (shapeOf n)) f v (stored current n v)
 formed-as n v f e = rw e at (formed n v)
 
 -- ---- How many octets are stored
 
 module _ (n : ℕ) (v : List ℕ) where
   -- of hexadecimal text
-  pub text-size : form n v ≡ 5 → length (stored n v) ≡ packedLength (length v)
+  pub text-size : form current n v ≡ 5 → length (stored current n v) ≡ packedLength (length v)
   text-size e = ap length (formed-as n v 5 e .packed) ∙ packed-values v
 
   -- of a QoS profile
-  pub profile-size : form n v ≡ 6 → length (stored n v) ≡ 1 + packedLength (length v - 3)
+  pub profile-size : form current n v ≡ 6 → length (stored current n v) ≡ 1 + packedLength (length v - 3)
   profile-size e = omega (arith, ap length (formed-as n v 6 e .packed), packed-values (drop 3 v), length-drop 3 v)

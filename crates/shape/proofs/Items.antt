@@ -8,6 +8,7 @@ use native.Mathlib.Omega.{arith}
 use lib.Dec.{T, eqb, leb, eqb→eq, leb→le}
 use borrow.Author.Tests.{eq-eqb}
 use lib.ListN.{length, getD}
+use Rattle.meaning.specs.Versions.{current}
 use Rattle.meaning.specs.Octets.{all, isDigit, isHex, numberOf, digitValue, packedLength}
 use Rattle.meaning.specs.Framing.{isPlain}
 use Rattle.meaning.specs.Shapes.{Shape, number, address, digits, hexadecimal, qos, shapeOf, meets}
@@ -42,21 +43,21 @@ raw-value false v s p = refl
 -- v are the octets of the part p
 module _ (n : ℕ) (v : List ℕ) (p : Part) where
   -- an item without digits, made of its form, its count and its value
-  undigited-is : (f c : ℕ) (x : Value) → form n v ≡ f → eqb f 4 ≡ false → length (stored n v) ≡ c → x ≡ valueBy f v (stored n v) p
+  undigited-is : (f c : ℕ) (x : Value) → form current n v ≡ f → eqb f 4 ≡ false → length (stored current n v) ≡ c → x ≡ valueBy f v (stored current n v) p
       → undigited n f c x ≡ itemFor n v p
   unfolding undigited itemFor count digitsBy
   undigited-is f c x fs e cs xs = rw (fs, e, cs, xs)
 
   -- a value that is in no form of its own
-  pub raw-is : form n v ≡ cond (isPlain n) 0 1 → rawItem n (length v) p ≡ itemFor n v p
+  pub raw-is : form current n v ≡ cond (isPlain n) 0 1 → rawItem n (length v) p ≡ itemFor n v p
   unfolding rawItem
   raw-is e =
       undigited-is (cond (isPlain n) 0 1) (length v) (is.Plain p) e (raw-not-4 (isPlain n))
-      (ap length (stored-raw (isPlain n) (codeOf (shapeOf n)) v (stored n v) (formed-as n v (cond (isPlain n) 0 1) e)))
-      (raw-value (isPlain n) v (stored n v) p)
+      (ap length (stored-raw (isPlain n) (codeOf (shapeOf n)) v (stored current n v) (formed-as n v (cond (isPlain n) 0 1) e)))
+      (raw-value (isPlain n) v (stored current n v) p)
 
   -- a value that misses the shape
-  pub missed : (s : Shape) → shapeOf n ≡ s → meets s v ≡ false → rawItem n (length v) p ≡ itemFor n v p
+  pub missed : (s : Shape) → shapeOf n ≡ s → meets current s v ≡ false → rawItem n (length v) p ≡ itemFor n v p
   missed s e m = raw-is (form-raw n v s e m)
 
   -- ---- Numbers and addresses
@@ -65,7 +66,7 @@ module _ (n : ℕ) (v : List ℕ) (p : Part) where
       → undigited n 2 4 (is.Number x) ≡ itemFor n v p
   unfolding valueBy formOf meets
   item-number e l x xs =
-      let f : form n v ≡ 2 = form-own n v number e (omega arith) (eq-eqb (length v) 4 l) in
+      let f : form current n v ≡ 2 = form-own n v number e (omega arith) (eq-eqb (length v) 4 l) in
       undigited-is 2 4 (is.Number x) f refl (ap length (formed-as n v 2 f .kept) ∙ l)
       (ap is.Number (xs ∙ ap numberOf (part-rest v 0 4 (omega arith))))
 
@@ -73,7 +74,7 @@ module _ (n : ℕ) (v : List ℕ) (p : Part) where
       → undigited n 3 4 (is.Address x) ≡ itemFor n v p
   unfolding valueBy formOf meets
   item-address e l x xs =
-      let f : form n v ≡ 3 = form-own n v address e (omega arith) (eq-eqb (length v) 4 l) in
+      let f : form current n v ≡ 3 = form-own n v address e (omega arith) (eq-eqb (length v) 4 l) in
       undigited-is 3 4 (is.Address x) f refl (ap length (formed-as n v 3 f .kept) ∙ l)
       (ap is.Address (xs ∙ ap numberOf (part-rest v 0 4 (omega arith))))
 
@@ -108,21 +109,21 @@ module _ (n : ℕ) (v : List ℕ) (p : Part) where
         → _≡_ {A = Item} (record { number = n; form = 4; count = length v; value = is.Digits; digits = got }) (itemFor n v p)
     unfolding itemFor count valueBy digitsBy formOf
     item-digits z =
-        let f : form n v ≡ 4 = form-own n v (digits a b) shape-is (omega arith) (sym (digits-all v a b some few) ∙ some-meet _ refl z) in
+        let f : form current n v ≡ 4 = form-own n v (digits a b) shape-is (omega arith) (sym (digits-all v a b some few) ∙ some-meet _ refl z) in
         let s = formed-as n v 4 f in
         rw (f, got-is, got-digits v (s .some) (s .few) (s .decimal))
 
   -- ---- Text
 
-  pub item-hexadecimal : shapeOf n ≡ hexadecimal → meets hexadecimal v ≡ true → undigited n 5 8 (is.Plain p) ≡ itemFor n v p
+  pub item-hexadecimal : shapeOf n ≡ hexadecimal → meets current hexadecimal v ≡ true → undigited n 5 8 (is.Plain p) ≡ itemFor n v p
   unfolding valueBy formOf meets
   item-hexadecimal e m =
-      let f : form n v ≡ 5 = form-own n v hexadecimal e (omega arith) m in
+      let f : form current n v ≡ 5 = form-own n v hexadecimal e (omega arith) m in
       let l : length v ≡ 16 = eqb→eq (length v) 16 (parts (eqb (length v) 16) (all isHex v) (passes _ m) .0) in
       undigited-is 5 8 (is.Plain p) f refl (text-size n v f ∙ ap packedLength l) refl
 
-  module _ (shape-is : shapeOf n ≡ qos) (met : meets qos v ≡ true) where
-    profiled : form n v ≡ 6
+  module _ (shape-is : shapeOf n ≡ qos) (met : meets current qos v ≡ true) where
+    profiled : form current n v ≡ 6
     unfolding formOf
     profiled = form-own n v qos shape-is (omega arith) met
 
@@ -139,14 +140,14 @@ module _ (n : ℕ) (v : List ℕ) (p : Part) where
   -- ---- One octet
 
   module _ (code : ℕ) (code-is : code ≡ codeOf (shapeOf n)) (one : code / 10 ≡ 7) where
-    pub octet-missed : meets (shapeBy code) v ≡ false → rawItem n (length v) p ≡ itemFor n v p
+    pub octet-missed : meets current (shapeBy code) v ≡ false → rawItem n (length v) p ≡ itemFor n v p
     octet-missed m = raw-is (form-missed n v code code-is m)
 
-    module _ (met : meets (shapeBy code) v ≡ true) where
-      single : form n v ≡ 7
+    module _ (met : meets current (shapeBy code) v ≡ true) where
+      single : form current n v ≡ 7
       single = form-met n v code code-is (omega arith) met ∙ one
 
-      told : One code v (stored n v)
+      told : One code v (stored current n v)
       told = rw code-is (formed-as n v 7 single)
 
       pub octet-there : 0 < length v

@@ -5,6 +5,7 @@ use Prim.Native.Nat.{ℕ, zero, suc, _+_, _*_, _%_, _<_}
 use native.Mathlib.Nat.{mod-eq-of-lt}
 use native.Mathlib.Omega.{arith}
 use lib.ListN.{length, drop, getD}
+use Rattle.meaning.specs.Versions.{current}
 use Rattle.meaning.specs.Octets.{Octets, numberOf, octetsOf, digitValue, values, pack}
 use Rattle.meaning.specs.Shapes.{shapeOf}
 use Rattle.meaning.specs.Sheet.{typeOf, subOf, form, count, stored, item}
@@ -72,17 +73,17 @@ form-stored area v s p c e o os =
 
 -- What an item stores of its area is what is meant to be stored of the value.
 pub stored-as-meant : (area : List ℕ) (number : ℕ) (value : Part) → Octets area
-    → storedIn area (itemAt area number value) ≡ stored number (partOf area (value .start) (value .len))
+    → storedIn area (itemAt area number value) ≡ stored current number (partOf area (value .start) (value .len))
 unfolding storedIn itemAt itemFor
 stored-as-meant area n p o =
     let v : List ℕ = partOf area (p .start) (p .len) in
     let ov : Octets v = part-octets area (p .start) (p .len) o in
-    form-stored area v (stored n v) p (codeOf (shapeOf n)) refl ov (stored-octets n v ov) (form n v) (form-range n v) (formed n v)
+    form-stored area v (stored current n v) p (codeOf (shapeOf n)) refl ov (stored-octets current n v ov) (form current n v) (form-range current n v) (formed n v)
 
 -- The octets of an item are those of the sheet's item of the value.
 pub item-as-meant : (area : List ℕ) (number : ℕ) (value : Part) → Octets area
-    → typeOf (itemAt area number value .number) ∷ subOf (itemAt area number value .number) ∷ itemAt area number value .form ∷ itemAt area number value .count ∷ storedIn area (itemAt area number value) ≡ item number (partOf area (value .start) (value .len))
+    → typeOf (itemAt area number value .number) ∷ subOf (itemAt area number value .number) ∷ itemAt area number value .form ∷ itemAt area number value .count ∷ storedIn area (itemAt area number value) ≡ item current number (partOf area (value .start) (value .len))
 unfolding item itemAt itemFor
 item-as-meant area n p o =
     let v : List ℕ = partOf area (p .start) (p .len) in
-    ap (λ (s : List ℕ). typeOf n ∷ subOf n ∷ form n v ∷ count n v ∷ s) (stored-as-meant area n p o)
+    ap (λ (s : List ℕ). typeOf n ∷ subOf n ∷ form current n v ∷ count current n v ∷ s) (stored-as-meant area n p o)

@@ -5,6 +5,7 @@ use mathlib.Core.Bool.{cond}
 use mathlib.Core.List.{List, [], _∷_}
 use lib.Dec.{eqb}
 use lib.ListN.{drop, getD}
+use Rattle.meaning.specs.Versions.{current}
 use Rattle.meaning.specs.Octets.{numberOf, octetsOf, pack, digitValue, values}
 use Rattle.meaning.specs.Framing.{isPlain}
 use Rattle.meaning.specs.Sheet.{form, count, stored}
@@ -41,10 +42,10 @@ unfoldable pub itemFor : (number : ℕ) → List ℕ → Part → Item
 itemFor n v p =
     record {
       number = n;
-      form = form n v;
-      count = count n v;
-      value = valueBy (form n v) v (stored n v) p;
-      digits = digitsBy (form n v) v;
+      form = form current n v;
+      count = count current n v;
+      value = valueBy (form current n v) v (stored current n v) p;
+      digits = digitsBy (form current n v) v;
     }
 
 -- the item of a carried number whose value is a part of an area

@@ -5,6 +5,7 @@ ghost use mathlib.Core.Bool.{cond, _&&_};
 ghost use Prim.Native.Nat.{_/_, _%_, _<_};
 ghost use lib.Dec.{eqb};
 ghost use lib.ListN.{length};
+ghost use Rattle.meaning.specs.Versions.{current};
 ghost use Rattle.meaning.specs.Octets.{all, isHex, digitValue};
 ghost use Rattle.meaning.specs.Shapes.{digits, qos, plainShape, gppShape, shapeOf, release};
 ghost use Rattle.meaning.specs.Shapes as meant;
@@ -157,7 +158,7 @@ pub fn code_of(number: u16) -> u8
 
 // Whether a value is `least` to `most` decimal digits.
 fn meets_digits(value: &[u8], least: usize, most: usize) -> bool
-    ensures { λ r. ⌜ r ≡ meant.meets (digits least most) (now (value .entry)) ⌝ }
+    ensures { λ r. ⌜ r ≡ meant.meets current (digits least most) (now (value .entry)) ⌝ }
 {
     if value.len() < least {
         return false;
@@ -181,7 +182,7 @@ fn meets_hex(value: &[u8], count: usize) -> bool
 // Whether a value is "98-" or "99-", by the second digit, and `count` hexadecimal digits.
 fn meets_release(value: &[u8], second: u8, count: usize) -> bool
     requires { ⌜ count < 256 ⌝ }
-    ensures { λ r. ⌜ r ≡ release 57 second count (now (value .entry)) ⌝ }
+    ensures { λ r. ⌜ r ≡ release current 57 second count (now (value .entry)) ⌝ }
 {
     if value.len() != 3 + count {
         return false;
@@ -200,7 +201,7 @@ fn meets_release(value: &[u8], second: u8, count: usize) -> bool
 
 // Whether a value is a QoS profile.
 fn meets_qos(value: &[u8]) -> bool
-    ensures { λ r. ⌜ r ≡ meant.meets qos (now (value .entry)) ⌝ }
+    ensures { λ r. ⌜ r ≡ meant.meets current qos (now (value .entry)) ⌝ }
 {
     if meets_release(value, b'8', 6) {
         return true;
@@ -210,7 +211,7 @@ fn meets_qos(value: &[u8]) -> bool
 
 // Whether a value is 16 to 128 octets and a multiple of 16.
 fn meets_blocks(value: &[u8]) -> bool
-    ensures { λ r. ⌜ r ≡ meant.meets meant.blocks (now (value .entry)) ⌝ }
+    ensures { λ r. ⌜ r ≡ meant.meets current meant.blocks (now (value .entry)) ⌝ }
 {
     let len = value.len();
     (16 <= len) & (len <= 128) & (len % 16 == 0)
@@ -218,7 +219,7 @@ fn meets_blocks(value: &[u8]) -> bool
 
 // Whether a value meets the shape of a code; a code that no shape has asks for nothing.
 pub fn meets_code(code: u8, value: &[u8]) -> bool
-    ensures { λ r. ⌜ r ≡ meant.meets (shapeBy code) (now (value .entry)) ⌝ }
+    ensures { λ r. ⌜ r ≡ meant.meets current (shapeBy code) (now (value .entry)) ⌝ }
 {
     match code {
         AT_LEAST_ONE => 1 <= value.len(),
@@ -241,7 +242,7 @@ pub fn meets_code(code: u8, value: &[u8]) -> bool
 // Whether a value meets the shape of a carried number. Here and in `item_of`, but for digits there, the even and the odd numbers of a
 // shape have an arm each: neighbours in one arm would be tested as a range, behind all the others.
 pub fn meets(number: u16, value: &[u8]) -> bool
-    ensures { λ r. ⌜ r ≡ meant.meets (shapeOf number) (now (value .entry)) ⌝ }
+    ensures { λ r. ⌜ r ≡ meant.meets current (shapeOf number) (now (value .entry)) ⌝ }
 {
     match number {
         1 | 25 => 1 <= value.len(),
@@ -428,7 +429,7 @@ pub fn item_of(v: &[u8], number: u16, value: area::Part) -> Item
 
 // "Stored octets are count, except form 4: half the count, rounded up".
 pub fn stored_len(form: u8, count: usize) -> usize
-    ensures { λ r. ⌜ r ≡ storedLength form count ⌝ }
+    ensures { λ r. ⌜ r ≡ storedLength current form count ⌝ }
 {
     if form == 4 {
         octets::packed_len(count)

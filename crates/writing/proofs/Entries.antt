@@ -6,9 +6,10 @@ use Prim.Native.Nat.{ℕ, _+_, _-_, _<_, _≤_}
 use native.Mathlib.Omega.{arith}
 use lib.ListN.{length, take, drop, getD, length-drop}
 use lib.Seq.{length-take-le, take-all}
+use Rattle.meaning.specs.Versions.{current}
 use Rattle.meaning.specs.Octets.{Octets}
-use Rattle.meaning.specs.Framing.{headLength}
-use Rattle.meaning.specs.Sheet.{attributeOctets, storedLength, holds, refused}
+use Rattle.meaning.specs.Framing.{headLength, attributeOctets}
+use Rattle.meaning.specs.Sheet.{storedLength, holds, refused}
 use Rattle.meaning.proofs.Octets.{octet-at, octets-take, octets-drop}
 use Rattle.meaning.proofs.Items.{number-low}
 use Rattle.meaning.proofs.Tests.{not-both}
@@ -25,7 +26,7 @@ use Rattle.writing.proofs.Values.{shown}
 -- ---- The attribute of an item
 
 -- the front was laid, and the writer of the value answered
-module _ (n f c : ℕ) (st : List ℕ) (o : Octets st) (long : length st ≡ storedLength f c) (at put : ℕ) (front first : List ℕ)
+module _ (n f c : ℕ) (st : List ℕ) (o : Octets st) (long : length st ≡ storedLength current f c) (at put : ℕ) (front first : List ℕ)
     (v : Laying (at + headLength n) (standsAs n f c st) (valueAs n f c st) front put first) where
   -- no readable attribute gives the item
   pub attributed-none : put ≡ 256 → (d out : List ℕ) → Attributed at n f c st d 0 out
@@ -88,7 +89,7 @@ module _ (l : List ℕ) (p : ℕ) (o : Octets l) (r : Headed) (says : r ≡ head
   pub carried-low : n < 512
   carried-low = omega (arith, head .number-is, number-low (getD l p 0) (getD l (p + 1) 0) (getD l (p + 2) 0) (octet-at l p o) (octet-at l (p + 1) o))
 
-  stored-size : length stored-here ≡ storedLength f c
+  stored-size : length stored-here ≡ storedLength current f c
   stored-size = size-stored l p o r says n f c behind head
 
   -- what stands behind its head
@@ -98,7 +99,7 @@ module _ (l : List ℕ) (p : ℕ) (o : Octets l) (r : Headed) (says : r ≡ head
   rest-is : rest-here ≡ drop (p + 4) l
   rest-is = take-all (length l - (p + 4)) (drop (p + 4) l) (omega (arith, length-drop (p + 4) l))
 
-  pub size-is : behind - (p + 4) ≡ storedLength f c
+  pub size-is : behind - (p + 4) ≡ storedLength current f c
   size-is = sym (length-take-le (behind - (p + 4)) (drop (p + 4) l) (omega (arith, behind-within, length-drop (p + 4) l))) ∙ stored-size
 
   pub size-within : behind - (p + 4) ≤ length rest-here

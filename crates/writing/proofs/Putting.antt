@@ -10,9 +10,9 @@ use lib.Dec.{eqb, ltb}
 use borrow.Author.Tests.{lt-ltb, le-ltb, le-leb, lt-leb}
 use lib.ListN.{length, take, drop, getD, set, length-drop, length-set}
 use lib.Seq.{take-all, take-suc, length-take-le}
-use Rattle.meaning.specs.Octets.{digitText, text, unpack}
-use Rattle.meaning.specs.Framing.{headLength}
-use Rattle.meaning.specs.Sheet.{attributeOctets, marked}
+use Rattle.meaning.specs.Octets.{digitText, text, unpack, octetsOf}
+use Rattle.meaning.specs.Framing.{headLength, attributeOctets}
+use Rattle.meaning.specs.Sheet.{marked}
 use Rattle.octets.specs.Parts.{laidAt, Begun}
 use Rattle.octets.proofs.Overs.{each-laid, laid-two}
 use Rattle.octets.proofs.Begun.{begun-laid, begun-on}
@@ -86,7 +86,7 @@ gpp-front n at d first out h room f e =
 pub attribute-stands : (n k at : ℕ) (v d front first out : List ℕ) → k ≡ length v → at + headLength n ≤ length d
     → front ≡ laidAt at (attributeFront n) d → Begun (at + headLength n) v front first → out ≡ lengthsAt at (headLength n) k first
     → Begun at (attributeOctets n v) d out
-unfolding attributeFront attributeOctets lengthsAt headLength
+unfolding attributeFront attributeOctets octetsOf lengthsAt headLength
 attribute-stands n k at v d front first out long room f w e = rw (sym long) (go (ltb n 256) room f w e)
   where
     go : (b : Bool) → at + cond b 2 8 ≤ length d → front ≡ laidAt at (cond b (n ∷ []) (26 ∷ 0 ∷ 0 ∷ 0 ∷ 40 ∷ 175 ∷ (n - 256) ∷ 0 ∷ [])) d
@@ -105,7 +105,7 @@ attribute-stands n k at v d front first out long room f w e = rw (sym long) (go 
 
 -- Its octets are those of the head and those of the value.
 pub attribute-long : (n : ℕ) (v : List ℕ) → length (attributeOctets n v) ≡ headLength n + length v
-unfolding attributeOctets headLength
+unfolding attributeOctets octetsOf headLength
 attribute-long n v = go (ltb n 256)
   where
     go : (b : Bool)
@@ -130,12 +130,12 @@ profile-laid st r tens ones at buf first out t o q some room f h =
 -- ---- The mark
 
 pub unmarked : (l : List ℕ) → length l < 9 → false ≡ marked l
-unfolding marked
+unfolding marked octetsOf
 unmarked l h = rw (lt-leb 9 (length l) h)
 
 pub mark-tested : (l : List ℕ) → 9 ≤ length l
     → eqb (getD l 0 0) 71 && (eqb (getD l 1 0) 73 && (eqb (getD l 2 0) 82 && (eqb (getD l 3 0) 0 && eqb (getD l 4 0) 1))) ≡ marked l
-unfolding marked
+unfolding marked octetsOf
 mark-tested [] h = absurd (omega arith)
 mark-tested (a ∷ []) h = absurd (omega arith)
 mark-tested (a ∷ b ∷ []) h = absurd (omega arith)

@@ -10,10 +10,10 @@ use lib.ListN.{length, take, drop, length-append, length-take}
 use Rattle.meaning.specs.Octets.{Octets, numberOf}
 use Rattle.meaning.proofs.Numbers.{number-fits}
 use Rattle.meaning.proofs.Octets.{octets-take, octets-drop}
-use Rattle.meaning.specs.Framing.{Walk, end, next, attributes}
+use Rattle.meaning.specs.Framing.{Walk, end, next, attributes, attributeOctets, areaOf}
 use Rattle.meaning.specs.Refusals as book
 use Rattle.meaning.specs.Refusals.{none, refusal, when, first, fault, tooLong}
-use Rattle.meaning.specs.Sheet.{attributeOctets, areaOf, itemsIn, kindIn, flagsIn, areaIn, refused}
+use Rattle.meaning.specs.Sheet.{itemsIn, kindIn, flagsIn, areaIn, refused}
 use Rattle.area.specs.declared.Refusal.{Refusal}
 use Rattle.octets.specs.Parts.{partOf}
 use Rattle.item.specs.declared.Headed.{Headed}

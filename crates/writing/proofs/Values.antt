@@ -8,10 +8,11 @@ use native.Mathlib.Omega.{arith}
 use lib.Dec.{T, eqb, leb, ltb, eqb→eq, leb→le}
 use borrow.Author.Tests.{lt-ltb, le-ltb, lt-leb, le-leb, ne-eqb, ltb-true, ltb-false}
 use lib.ListN.{length, getD}
+use Rattle.meaning.specs.Versions.{current}
 use Rattle.meaning.specs.Octets.{Octets, between, digitText, text, unpack}
-use Rattle.meaning.specs.Framing.{isPlain, headLength}
+use Rattle.meaning.specs.Framing.{isPlain, headLength, carries}
 use Rattle.meaning.specs.Shapes.{Shape, number, address, digits, hexadecimal, qos, hexDigit, anyOctet, decimalDigit, atLeast, exactly, blocks, free, shapeOf, meets}
-use Rattle.meaning.specs.Sheet.{formOf, valueOf, carries, valueIn, storedLength}
+use Rattle.meaning.specs.Sheet.{formOf, valueOf, valueIn, storedLength}
 use Rattle.meaning.proofs.Tests.{parts, either, is-true, passes, not-both}
 use Rattle.meaning.proofs.Framing.{plain-lines, gpp-lines}
 use Rattle.meaning.proofs.Packing.{unpack-length}
@@ -37,11 +38,11 @@ carried-short n v t = go (isPlain n) refl
 -- nor is one whose value stands as it is
 pub raw-short : (n code f : ℕ) (v : List ℕ) → raw n code f v ≡ true → headLength n + length v < 256
 unfolding raw
-raw-short n code f v e = carried-short n v (parts (not (leb 20 code && meets (shapeBy code) v)) (carries n v) (parts (eqb (cond (isPlain n) 0 1) f) _ (passes _ e) .1) .1)
+raw-short n code f v e = carried-short n v (parts (not (leb 20 code && meets current (shapeBy code) v)) (carries n v) (parts (eqb (cond (isPlain n) 0 1) f) _ (passes _ e) .1) .1)
 
 -- the value by the form is the value by the shape, and short
 record Told (s : Shape) (n f c : ℕ) (st : List ℕ) : Type 0 where
-  value-is : valueOf s c st ≡ valueAs n f c st
+  value-is : valueOf current s c st ≡ valueAs n f c st
   few : length (valueAs n f c st) ≤ 246
 
 -- the text of a digit
@@ -80,7 +81,7 @@ one-held t m st e h =
     (eqb→eq (length st) 1 (q .0), leb→le (getD st 0 0) m (q .1))
 
 -- the text of a QoS profile
-qos-value : (c : ℕ) (st : List ℕ) → getD st 0 0 < 100 → valueOf qos c st ≡ profileText st
+qos-value : (c : ℕ) (st : List ℕ) → getD st 0 0 < 100 → valueOf current qos c st ≡ profileText st
 unfolding valueOf profileText text
 qos-value c st h =
     let tens : getD st 0 0 / 10 % 16 ≡ getD st 0 0 / 10 = omega arith in
@@ -101,7 +102,7 @@ formless s c st e h = let f : false ≡ true = rw e at h in not-both (sym f)
 
 module _ (n c : ℕ) (st : List ℕ) (o : Octets st) where
   -- by the shape of the number
-  told : (s : Shape) → shapeOf n ≡ s → length st ≡ storedLength (formOf s) c → held s c st ≡ true → Told s n (formOf s) c st
+  told : (s : Shape) → shapeOf n ≡ s → length st ≡ storedLength current (formOf s) c → held s c st ≡ true → Told s n (formOf s) c st
   unfolding formOf valueOf valueAs codeOf
   told number e l h = record { value-is = refl; few = omega (arith, l, eqb→eq c 4 (passes _ (sym (number-held c st l) ∙ h))) }
   told address e l h = record { value-is = refl; few = omega (arith, l, eqb→eq c 4 (passes _ (sym (address-held c st l) ∙ h))) }
@@ -129,10 +130,10 @@ module _ (n c : ℕ) (st : List ℕ) (o : Octets st) where
 
 -- the value of an item that some readable attribute gives, by its form; the attribute is no longer than an octet says
 pub record Shown (n f c : ℕ) (st : List ℕ) : Type 0 where
-  pub value-is : valueIn n f c st ≡ valueAs n f c st
+  pub value-is : valueIn current n f c st ≡ valueAs n f c st
   pub short : headLength n + length (valueAs n f c st) < 256
 
-module _ (n f c : ℕ) (st : List ℕ) (o : Octets st) (long : length st ≡ storedLength f c) (stands : standsAs n f c st ≡ true) where
+module _ (n f c : ℕ) (st : List ℕ) (o : Octets st) (long : length st ≡ storedLength current f c) (stands : standsAs n f c st ≡ true) where
   shown-raw : f < 2 → Shown n f c st
   unfolding standsAs valueAs
   shown-raw h =
@@ -154,7 +155,7 @@ module _ (n f c : ℕ) (st : List ℕ) (o : Octets st) (long : length st ≡ sto
       let s : eqb (formOf (shapeOf n)) f && held (shapeOf n) c st ≡ true = rw (le-ltb f 2 h) at stands in
       let q = parts (eqb (formOf (shapeOf n)) f) (held (shapeOf n) c st) (passes _ s) in
       let e : formOf (shapeOf n) ≡ f = eqb→eq (formOf (shapeOf n)) f (q .0) in
-      let k = subst (λ (g : ℕ). Told (shapeOf n) n g c st) e (told n c st o (shapeOf n) refl (long ∙ ap (λ (g : ℕ). storedLength g c) (sym e)) (is-true _ (q .1))) in
+      let k = subst (λ (g : ℕ). Told (shapeOf n) n g c st) e (told n c st o (shapeOf n) refl (long ∙ ap (λ (g : ℕ). storedLength current g c) (sym e)) (is-true _ (q .1))) in
       record { value-is = rw (lt-leb f 1 (omega arith)) (k .value-is); short = omega (arith, head-eight n, k .few) }
 
   pub shown : Shown n f c st

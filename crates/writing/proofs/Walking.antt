@@ -5,6 +5,7 @@ use Prim.Native.Nat.{ℕ, suc, _+_, _-_, _<_, _≤_}
 use native.Mathlib.Omega.{arith}
 use lib.ListN.{length, drop, drop-of-length-le}
 use lib.Seq.{drop-drop, drop-cons}
+use Rattle.meaning.specs.Versions.{current}
 use Rattle.meaning.specs.Octets.{numberOf}
 use Rattle.meaning.specs.Framing.{Walk, end, broken, next}
 use Rattle.meaning.specs.Sheet.{holds, refused, Entered, onItem, items, itemsIn}
@@ -13,7 +14,7 @@ use Rattle.item.specs.Answers.{enteredAt}
 
 -- so many items from a place on
 unfoldable pub itemsAt : (sheet : List ℕ) (left place : ℕ) → Walk
-itemsAt l left p = items left p (drop p l)
+itemsAt l left p = items current left p (drop p l)
 
 pub items-start : (l : List ℕ) (left : ℕ) → left ≡ numberOf (partOf l 7 2) → itemsIn l ≡ itemsAt l left 9
 unfolding itemsIn itemsAt partOf
@@ -23,8 +24,8 @@ items-start l left e = rw e
 on-from : (l : List ℕ) (p c : ℕ) (e : Entered) → enteredAt l p ≡ e → itemsAt l (suc c) p ≡ onItem p (λ size. itemsAt l c (p + size)) e
 unfolding itemsAt items enteredAt
 on-from l p c (holds n v size) h =
-    ap (onItem p (λ k. items c (p + k) (drop k (drop p l)))) h ∙ rw (drop-drop size p l)
-on-from l p c (refused k) h = ap (onItem p (λ k. items c (p + k) (drop k (drop p l)))) h
+    ap (onItem p (λ k. items current c (p + k) (drop k (drop p l)))) h ∙ rw (drop-drop size p l)
+on-from l p c (refused k) h = ap (onItem p (λ k. items current c (p + k) (drop k (drop p l)))) h
 
 -- the number of a loop's turns left, and one less
 one-less : (left : ℕ) → 0 < left → left ≡ suc (left - 1)

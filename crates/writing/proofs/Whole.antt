@@ -8,7 +8,7 @@ use lib.Dec.{leb, leb→le}
 use borrow.Author.Tests.{not-true, not-false}
 use lib.ListN.{length, take}
 use lib.Seq.{length-take-le}
-use Rattle.meaning.specs.Octets.{same}
+use Rattle.meaning.specs.Octets.{same, octetsOf}
 use Rattle.meaning.specs.Jobs.{isKind, areFlags}
 use Rattle.meaning.specs.Refusals as book
 use Rattle.meaning.specs.Refusals.{none, refusal, first, tooShort, sheetRefusal}
@@ -32,8 +32,8 @@ use Rattle.writing.proofs.Transcribing.{refused-by}
 
 -- a marked sheet has its nine octets
 pub marked-nine : (l : List ℕ) → marked l ≡ true → 9 ≤ length l
-unfolding marked
-marked-nine l e = leb→le 9 (length l) (parts (leb 9 (length l)) (same (take 5 l) mark) (passes _ e) .0)
+unfolding marked octetsOf
+marked-nine l e = leb→le 9 (length l) (parts (leb 9 (length l)) _ (passes _ e) .0)
 
 -- ---- The judgement
 

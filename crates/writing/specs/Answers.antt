@@ -72,6 +72,4 @@ writingOf (meant.refused n s) = Refused (record { number = n; second = s })
 
 -- what writing answers, and what the lent buffer holds then
 abbrev pub Wrote : (sheet buffer : List ℕ) (said : Writing) (held : List ℕ) → Type 0
-Wrote sheet buffer said held =
-    let answer = meant.writeAnswer sheet (length buffer) in
-    meant.Promise (writingOf answer) (meant.areaAnswer answer) buffer said held
+Wrote = meant.Writes writingOf

@@ -7,9 +7,8 @@ use mathlib.Core.List.{List, [], _∷_}
 use lib.Dec.{eqb}
 use lib.ListN.{length, drop, getD, set}
 use Rattle.meaning.specs.Octets.{digitText, text, unpack}
-use Rattle.meaning.specs.Framing.{isPlain}
+use Rattle.meaning.specs.Framing.{isPlain, attributeOctets}
 use Rattle.meaning.specs.Shapes.{shapeOf}
-use Rattle.meaning.specs.Sheet.{attributeOctets}
 use Rattle.octets.specs.Parts.{Begun}
 use Rattle.octets.specs.DigitStrings.{packedDigits, decimals}
 use Rattle.shape.specs.Codes.{codeOf}

@@ -7,6 +7,7 @@ ghost use mathlib.Core.Bool.{cond, _&&_};
 ghost use Prim.Native.Nat.{_+_, _*_, _%_, _≤_, _<_};
 ghost use lib.Dec.{eqb};
 ghost use lib.ListN.{length, take};
+ghost use Rattle.meaning.specs.Versions.{current};
 ghost use Rattle.meaning.specs.Octets.{digitText, text, unpack, packedLength};
 ghost use Rattle.meaning.specs.Shapes.{shapeOf};
 ghost use Rattle.meaning.specs.Sheet.{marked, judged, storedLength};
@@ -224,7 +225,7 @@ fn put_value(
     size: usize,
 ) -> usize
     requires { ⌜ (code ≡ codeOf (shapeOf number)) ×
-        ((size ≡ storedLength form count) × ((size ≤ length (now rest)) × (at + 255 ≤ length (now buf)))) ⌝ }
+        ((size ≡ storedLength current form count) × ((size ≤ length (now rest)) × (at + 255 ≤ length (now buf)))) ⌝ }
     ensures { λ r. ⌜ Laying at (standsAs number form count (take size (now (rest .entry))))
         (valueAs number form count (take size (now (rest .entry)))) (now (buf .entry)) r (now (buf .exit)) ⌝ }
 {
@@ -262,7 +263,7 @@ fn put_attribute(
     rest: &[u8],
     size: usize,
 ) -> usize
-    requires { ⌜ (number < 512) × ((size ≡ storedLength form count) × ((size ≤ length (now rest)) × (at + span ≤ length (now buf)))) ⌝ }
+    requires { ⌜ (number < 512) × ((size ≡ storedLength current form count) × ((size ≤ length (now rest)) × (at + span ≤ length (now buf)))) ⌝ }
     ensures { λ r. ⌜ Attributed at number form count (take size (now (rest .entry))) (now (buf .entry)) r (now (buf .exit)) ⌝ }
 {
     let code = shape::code_of(number);

@@ -5,6 +5,7 @@ use Prim.Native.Nat.{_+_, _<_, _≤_}
 use native.Mathlib.Omega.{arith}
 use lib.ListN.{length, take}
 use lib.Seq.{length-take-le}
+use Rattle.meaning.specs.Versions.{current}
 use Rattle.meaning.specs.Octets.{Octets}
 use Rattle.meaning.specs.Framing.{headLength}
 use Rattle.meaning.specs.Sheet.{storedLength}
@@ -25,7 +26,7 @@ abbrev headed : tie.After-put-value → tie.After-head-len
 headed k = k .before .before .before .before .before .before
 
 -- the octets that are stored, how many they are, and that they are octets
-long : (k : tie.Start) → (let a = k .args in length (take (a .size) (a .rest .now)) ≡ storedLength (a .form) (a .count))
+long : (k : tie.Start) → (let a = k .args in length (take (a .size) (a .rest .now)) ≡ storedLength current (a .form) (a .count))
 long k = length-take-le _ _ (k .pre .1 .1 .0) ∙ k .pre .1 .0
 
 octets : (k : tie.After-head-len) → (let a = start k .args in Octets (take (a .size) (a .rest .now)))

@@ -5,6 +5,7 @@ use mathlib.Core.Path.{_≡_, sym, _∙_}
 use native.Mathlib.Omega.{arith}
 use lib.ListN.{length, take}
 use lib.Seq.{length-take-le}
+use Rattle.meaning.specs.Versions.{current}
 use Rattle.meaning.specs.Octets.{Octets}
 use Rattle.meaning.specs.Shapes.{shapeOf}
 use Rattle.meaning.specs.Sheet.{storedLength}
@@ -20,10 +21,10 @@ is : (k : tie.After-stored) → (let a = k .before .before .before .args in a .c
 is k = k .before .before .before .pre .0
 
 -- the octets that are stored, how many they are, and that they are octets
-size : (k : tie.After-stored) → (let a = k .before .before .before .args in a .size ≡ storedLength (a .form) (a .count))
+size : (k : tie.After-stored) → (let a = k .before .before .before .args in a .size ≡ storedLength current (a .form) (a .count))
 size k = k .before .before .before .pre .1 .0
 
-long : (k : tie.After-stored) → (let a = k .before .before .before .args in length (take (a .size) (a .rest .now)) ≡ storedLength (a .form) (a .count))
+long : (k : tie.After-stored) → (let a = k .before .before .before .args in length (take (a .size) (a .rest .now)) ≡ storedLength current (a .form) (a .count))
 long k = length-take-le _ _ (k .before .before .before .pre .1 .1 .0) ∙ size k
 
 octets : (k : tie.After-stored) → (let a = k .before .before .before .args in Octets (take (a .size) (a .rest .now)))
