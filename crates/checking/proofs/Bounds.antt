@@ -26,8 +26,7 @@ module _ (c : Context) where
       low false true = omega arith
       low false false = omega arith
 
-      go : (m o t b : Bool)
-          → length (put (not m) (entry (x .place) 1 (x .number)) (put (m && o) (entry (x .place) 2 (x .number))
+      go : (m o t b : Bool) → length (put (not m) (entry (x .place) 1 (x .number)) (put (m && o) (entry (x .place) 2 (x .number))
           (put t (entry (x .place) 3 (x .number)) (put b (entry (x .place) 4 (x .number)) [])))) ≤ 3
       go true true t b = omega (arith, low t b)
       go true false t b = omega (arith, low t b)

@@ -79,8 +79,7 @@ module _ (c : Context) (n : ℕ) (v : List ℕ) (met : meets (shapeOf n) v ≡ t
       go (d ∷ y ∷ v) h = absurd (omega arith)
 
 -- any other number
-pub allowed-other : (c : Context) (n : ℕ) (v : List ℕ)
-    → Past (Unit {0}) n (6 ∷ 7 ∷ 45 ∷ 49 ∷ 40 ∷ gpp 3 ∷ gpp 11 ∷ gpp 12 ∷ [])
+pub allowed-other : (c : Context) (n : ℕ) (v : List ℕ) → Past (Unit {0}) n (6 ∷ 7 ∷ 45 ∷ 49 ∷ 40 ∷ gpp 3 ∷ gpp 11 ∷ gpp 12 ∷ [])
     → true ≡ allowed c n v
 unfolding allowed
 allowed-other c n v p =

@@ -75,20 +75,15 @@ module _ (c : Context) (area : List ℕ) (room : ℕ) where
   check-roomy h = rw (roomy (areaRefusal (c .kind) (c .flags) area) 10 (length (listOf c area)) room h)
 
   -- The list of a check is the list of the breaches, and no other list is.
-  pub check-lists : (l : List ℕ)
-      → Octets area
-      → checkAnswer c area room ≡ given l
+  pub check-lists : (l : List ℕ) → Octets area → checkAnswer c area room ≡ given l
       → Lists l (Breach c (length area) (attributes (walk area)))
   unfolding checkAnswer areaOrder
   check-lists l o e =
       let order = first (areaRefusal (c .kind) (c .flags) area) (tooShort 10 (length (listOf c area)) room) in
       rw (unless-given order (listOf c area) l e .1) at (list-lists c area o)
 
-  pub check-only : (l m : List ℕ)
-      → Octets area
-      → checkAnswer c area room ≡ given l
-      → Lists m (Breach c (length area) (attributes (walk area)))
-      → m ≡ l
+  pub check-only : (l m : List ℕ) → Octets area → checkAnswer c area room ≡ given l
+      → Lists m (Breach c (length area) (attributes (walk area))) → m ≡ l
   check-only l m o e p = one-list (Breach c (length area) (attributes (walk area))) m l p (check-lists l o e)
 
 -- ---- Write
