@@ -9,7 +9,7 @@ use lib.Dec.{T, leb}
 use lib.ListN.{length, getD}
 use borrow.Author.Tests.{leb-true, le-leb}
 use Rattle.meaning.specs.Octets.{same}
-use Rattle.meaning.specs.Jobs.{isKind, Context, comes}
+use Rattle.meaning.specs.Jobs.{isKind, Context}
 use Rattle.meaning.specs.Presence.{mandatory}
 use Rattle.meaning.specs.Codes.{code}
 use Rattle.meaning.proofs.Tests.{parts, same-one}
