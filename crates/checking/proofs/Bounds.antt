@@ -1,7 +1,7 @@
 -- The longest list: three entries for each of 2,038 attributes, and twelve at the end. Assumes nothing.
 use mathlib.Core.Path.{ap, _∙_}
 use mathlib.Core.Bool.{Bool, true, false, not, _&&_}
-use mathlib.Core.List.{List, [], _∷_, _++_, map}
+use mathlib.Core.List.{List, [], _∷_, _++_}
 use Prim.Native.Nat.{ℕ, _*_, _≤_}
 use native.Mathlib.Omega.{arith}
 use lib.ListN.{length, length-append, length-map}
@@ -26,8 +26,7 @@ module _ (c : Context) where
       low false true = omega arith
       low false false = omega arith
 
-      go : (m o t b : Bool)
-          → length (put (not m) (entry (x .place) 1 (x .number)) (put (m && o) (entry (x .place) 2 (x .number))
+      go : (m o t b : Bool) → length (put (not m) (entry (x .place) 1 (x .number)) (put (m && o) (entry (x .place) 2 (x .number))
           (put t (entry (x .place) 3 (x .number)) (put b (entry (x .place) 4 (x .number)) [])))) ≤ 3
       go true true t b = omega (arith, low t b)
       go true false t b = omega (arith, low t b)

@@ -52,10 +52,8 @@ unfolding laidFrom
 laid-none d at = record { counts = sym (add-zero at); holds = refl }
 
 -- two, one behind the other
-pub laid-then : (l m d first held : List ℕ) (at between said : ℕ)
-    → LaysEntries l d at between first
-    → LaysEntries m first between said held
-    → LaysEntries (l ++ m) d at said held
+pub laid-then : (l m d first held : List ℕ) (at between said : ℕ) → LaysEntries l d at between first
+    → LaysEntries m first between said held → LaysEntries (l ++ m) d at said held
 unfolding laidFrom
 laid-then l m d first held at between said p q =
     record {
@@ -90,9 +88,7 @@ chosen-none d at = laid-none d at
 
 -- a candidate, known by its test, and then others
 pub chosen-then : (c : Candidate) (cs : List Candidate) (stands : Bool) (d first held : List ℕ) (at between said : ℕ)
-    → stands ≡ c .stands
-    → LaysOne stands (c .key) d at between first
-    → LaysEntries (chosen cs) first between said held
+    → stands ≡ c .stands → LaysOne stands (c .key) d at between first → LaysEntries (chosen cs) first between said held
     → LaysEntries (chosen (c ∷ cs)) d at said held
 chosen-then c cs stands d first held at between said s p q =
     rw (chosen-first c cs)
@@ -104,16 +100,14 @@ unfolding chosen
 chosen-append [] ds = refl
 chosen-append (c ∷ cs) ds = go (c .stands) (chosen-append cs ds)
   where
-    go : (b : Bool)
-        → chosen (cs ++ ds) ≡ chosen cs ++ chosen ds
+    go : (b : Bool) → chosen (cs ++ ds) ≡ chosen cs ++ chosen ds
         → put b (c .key) (chosen (cs ++ ds)) ≡ put b (c .key) (chosen cs) ++ chosen ds
     go true e = ap (λ (l : List ℕ). c .key ∷ l) e
     go false e = e
 
 -- what is chosen of some candidates, and then of others
 pub chosen-both : (cs ds : List Candidate) (d first held : List ℕ) (at between said : ℕ)
-    → LaysEntries (chosen cs) d at between first
-    → LaysEntries (chosen ds) first between said held
+    → LaysEntries (chosen cs) d at between first → LaysEntries (chosen ds) first between said held
     → LaysEntries (chosen (cs ++ ds)) d at said held
 chosen-both cs ds d first held at between said p q =
     rw (chosen-append cs ds) (laid-then (chosen cs) (chosen ds) d first held at between said p q)
@@ -143,11 +137,8 @@ module _ (f : ℕ → Candidate) (numbers d : List ℕ) (at : ℕ) where
   laying-none = record { lays = chosen-none d at; few = omega arith }
 
   module _ (i written : ℕ) (held : List ℕ) (k : Laying f numbers d at i written held) where
-    pub laying-more : i < length numbers
-        → (stands : Bool) (said : ℕ) (after : List ℕ)
-        → stands ≡ f (getD numbers i 0) .stands
-        → LaysOne stands (f (getD numbers i 0) .key) held written said after
-        → Laying f numbers d at (i + 1) said after
+    pub laying-more : i < length numbers → (stands : Bool) (said : ℕ) (after : List ℕ) → stands ≡ f (getD numbers i 0) .stands
+        → LaysOne stands (f (getD numbers i 0) .key) held written said after → Laying f numbers d at (i + 1) said after
     laying-more h stands said after s p =
         let n = getD numbers i 0 in
         let more : map f (take (i + 1) numbers) ≡ map f (take i numbers) ++ f n ∷ [] =

@@ -29,10 +29,8 @@ use Rattle.checking.proofs.Walking.{Reaches, reaches-more}
 -- ---- Rules 1 to 4
 
 -- the view of an attribute in an area; its value ends where the next attribute begins
-view-in : (c : Context) (l : List ℕ) (place n : ℕ) (p : Part) (behind : ℕ) (v : List ℕ)
-    → p .start + p .len ≡ behind
-    → v ≡ take (behind - p .start) (drop (p .start) l)
-    → view c (attributeIn l place n p) ≡ viewAt c place n v
+view-in : (c : Context) (l : List ℕ) (place n : ℕ) (p : Part) (behind : ℕ) (v : List ℕ) → p .start + p .len ≡ behind
+    → v ≡ take (behind - p .start) (drop (p .start) l) → view c (attributeIn l place n p) ≡ viewAt c place n v
 view-in c l place n p behind v ends e =
     let long : behind - p .start ≡ p .len = omega (arith, ends) in
     rw (e, long)
@@ -47,10 +45,8 @@ module _ (c : Context) (again : Bool) (place n : ℕ) (v : List ℕ) (met off ba
     (o : off ≡ met && not (allowed c n v)) (b : bar ≡ barred c n) where
   -- what it breaks, laid rule by rule
   pub broken-laid : (d one two three held : List ℕ) (at first second third said : ℕ)
-      → LaysOne (not met) (entry place 1 n) d at first one
-      → LaysOne off (entry place 2 n) one first second two
-      → LaysOne again (entry place 3 n) two second third three
-      → LaysOne bar (entry place 4 n) three third said held
+      → LaysOne (not met) (entry place 1 n) d at first one → LaysOne off (entry place 2 n) one first second two
+      → LaysOne again (entry place 3 n) two second third three → LaysOne bar (entry place 4 n) three third said held
       → LaysEntries (chosen (brokenBy c again (viewAt c place n v))) d at said held
   unfolding brokenBy view
   broken-laid d one two three held at first second third said p q r s =
@@ -60,8 +56,7 @@ module _ (c : Context) (again : Bool) (place n : ℕ) (v : List ℕ) (met off ba
       (chosen-then _ _ bar three held held third said said b s (chosen-none held said))))
 
   -- it breaks no rule
-  pub broken-none : (d : List ℕ) (at : ℕ)
-      → (met && not off) && (not again && not bar) ≡ true
+  pub broken-none : (d : List ℕ) (at : ℕ) → (met && not off) && (not again && not bar) ≡ true
       → LaysEntries (chosen (brokenBy c again (viewAt c place n v))) d at at d
   broken-none d at t =
       let two = parts (met && not off) (not again && not bar) (passes _ t) in
@@ -138,13 +133,9 @@ passing-none c l d seen none-seen =
 
 module _ (c : Context) (l d out : List ℕ) (seen : List Bool) (place written : ℕ) (k : Passing c l d out seen place written) where
   -- one attribute more
-  pub passing-more : (n : ℕ) (p : Part) (behind : ℕ)
-      → record { number = n; value = p; next = behind } ≡ carriedAt l place
-      → Stands l place n p behind
-      → n < 512
-      → (again : Bool) (v held : List ℕ) (said : ℕ)
-      → again ≡ onceOnly n && isIn n (k .numbers)
-      → v ≡ take (behind - p .start) (drop (p .start) l)
+  pub passing-more : (n : ℕ) (p : Part) (behind : ℕ) → record { number = n; value = p; next = behind } ≡ carriedAt l place
+      → Stands l place n p behind → n < 512 → (again : Bool) (v held : List ℕ) (said : ℕ)
+      → again ≡ onceOnly n && isIn n (k .numbers) → v ≡ take (behind - p .start) (drop (p .start) l)
       → LaysEntries (chosen (brokenBy c again (viewAt c place n v))) out written said held
       → Passing c l d held (set seen n true) behind said
   unfolding along atAttribute view attributes fault
@@ -189,8 +180,7 @@ module _ (c : Context) (l d out : List ℕ) (seen : List Bool) (place written : 
       }
 
   -- a refusal
-  pub passing-broken : (refused : Refusal)
-      → walkAt l place ≡ broken (refused .number) (refused .second)
+  pub passing-broken : (refused : Refusal) → walkAt l place ≡ broken (refused .number) (refused .second)
       → AlongSays c l d (Broken refused) out seen
   unfolding AlongSays fault
   passing-broken refused h = record { first = k .same-fault ∙ ap fault h; kept = laid-kept (k .gone) d out 0 written (k .lays) }

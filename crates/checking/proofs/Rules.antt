@@ -36,12 +36,8 @@ module _ (n place : ℕ) (once : Bool) (o : once ≡ onceOnly n) where
 plain-unlisted : (n : ℕ) → n < 256 → isListed3gpp n ≡ false
 plain-unlisted n h = rw (lt-leb (gpp 1) n (omega arith), ne-eqb n (gpp 18) (λ e. omega arith))
 
-pub barred-plain : (c : Context) (n : ℕ) (codes : List ℕ) (bars : Bool)
-    → Known (c .kind)
-    → Row c codes
-    → n < 256
-    → bars ≡ codeBars (getD codes n 0) (c .flags)
-    → bars ≡ barred c n
+pub barred-plain : (c : Context) (n : ℕ) (codes : List ℕ) (bars : Bool) → Known (c .kind) → Row c codes → n < 256
+    → bars ≡ codeBars (getD codes n 0) (c .flags) → bars ≡ barred c n
 unfolding barred
 barred-plain c n codes bars k r h e =
     e ∙ ap (λ (code : ℕ). codeBars code (c .flags)) (r .says n h) ∙ code-bars c n (known-kind (c .kind) k) h

@@ -1,6 +1,6 @@
 -- Rule 2: the allowed values of the numbers that have any, where the shape holds. Assumes nothing.
 use mathlib.Core.Path.{_≡_, ap, _∙_}
-use mathlib.Core.Bool.{Bool, true, false, not, _&&_, _||_, or-false}
+use mathlib.Core.Bool.{true, _&&_, _||_, or-false}
 use mathlib.Core.List.{List, [], _∷_}
 use Prim.Native.Nat.{ℕ, _+_, _*_, _^_, _≤_, _<_}
 use native.Mathlib.Omega.{arith}
@@ -80,8 +80,7 @@ module _ (c : Context) (n : ℕ) (v : List ℕ) (met : meets current (shapeOf n)
       go (d ∷ y ∷ v) h = absurd (omega arith)
 
 -- any other number
-pub allowed-other : (c : Context) (n : ℕ) (v : List ℕ)
-    → Past (Unit {0}) n (6 ∷ 7 ∷ 45 ∷ 49 ∷ 40 ∷ gpp 3 ∷ gpp 11 ∷ gpp 12 ∷ [])
+pub allowed-other : (c : Context) (n : ℕ) (v : List ℕ) → Past (Unit {0}) n (6 ∷ 7 ∷ 45 ∷ 49 ∷ 40 ∷ gpp 3 ∷ gpp 11 ∷ gpp 12 ∷ [])
     → true ≡ allowed c n v
 unfolding allowed
 allowed-other c n v p =
@@ -95,12 +94,3 @@ allowed-other c n v p =
       ne-eqb n (gpp 11) (p .0 .1),
       ne-eqb n (gpp 12) (p .1),
     )
-
--- ---- Shape met, value not allowed
-
-module _ (c : Context) (n : ℕ) (v : List ℕ) (met : Bool) where
-  pub offends-not : met ≡ false → false ≡ met && not (allowed c n v)
-  offends-not m = rw m
-
-  pub offends-by : (good : Bool) → met ≡ true → good ≡ allowed c n v → not good ≡ met && not (allowed c n v)
-  offends-by good m e = rw (m, e)

@@ -19,10 +19,7 @@ abbrev pub Reaches : (l : List ℕ) (from : ℕ) (numbers : List ℕ) (to : ℕ)
 Reaches l p [] q = p ≡ q
 Reaches l p (n ∷ ns) q = (carriedAt l p .number ≡ n) × ((p < carriedAt l p .next) × Reaches l (carriedAt l p .next) ns q)
 
-pub reaches-more : (l : List ℕ) (p : ℕ) (ns : List ℕ) (q : ℕ) (r : Carried)
-    → r ≡ carriedAt l q
-    → q < r .next
-    → Reaches l p ns q
+pub reaches-more : (l : List ℕ) (p : ℕ) (ns : List ℕ) (q : ℕ) (r : Carried) → r ≡ carriedAt l q → q < r .next → Reaches l p ns q
     → Reaches l p (ns ++ r .number ∷ []) (r .next)
 reaches-more l p [] q r says on w =
     let same : carriedAt l p ≡ r = ap (carriedAt l) w ∙ sym says in
@@ -62,9 +59,7 @@ pub looking-unseen : (n : ℕ) (noted : Bool) (seen : List ℕ) → noted ≡ is
 looking-unseen n noted seen says e = sym (ap (λ (x : Bool). onceOnly n && x) (sym says ∙ e) ∙ and-false (onceOnly n))
 
 -- The search goes to the place, or ends at once where the number may stand again.
-pub looking-start : (l : List ℕ) (n : ℕ) (seen : List ℕ) (place end : ℕ)
-    → end ≡ searchEnd n place
-    → Reaches l 0 seen place
+pub looking-start : (l : List ℕ) (n : ℕ) (seen : List ℕ) (place end : ℕ) → end ≡ searchEnd n place → Reaches l 0 seen place
     → Looking l n place end 0
 unfolding searchEnd
 looking-start l n seen place end e r = rw e (go (onceOnly n) refl)

@@ -33,11 +33,8 @@ use Rattle.checking.proofs.Ends.{end-meant}
 -- ---- A pass
 
 -- What the attributes break and then the end are the whole list.
-pub pass-laid : (c : Context) (area codes : List ℕ) (seen : List Bool)
-    → Ready c area codes
-    → (d one held : List ℕ) (first said : ℕ)
-    → Walked c area d first one seen
-    → LaysEntries (chosen (endBy c codes seen (length area))) one first said held
+pub pass-laid : (c : Context) (area codes : List ℕ) (seen : List Bool) → Ready c area codes → (d one held : List ℕ) (first said : ℕ)
+    → Walked c area d first one seen → LaysEntries (chosen (endBy c codes seen (length area))) one first said held
     → PassSays c area d (Whole said) held
 unfolding PassSays listOf breaches
 pass-laid c area codes seen y d one held first said p q =
@@ -64,8 +61,7 @@ module _ (c : Context) (area d : List ℕ) (r : Tally) (held : List ℕ) (seen :
 
 -- The first that applies is a refusal, which leaves the buffer as it was.
 pub refused-checked : (c : Context) (area : List ℕ) (refused : Refusal) (d : List ℕ)
-    → areaRefusal (c .kind) (c .flags) area ≡ inBook refused
-    → Checked c area d (is.Refused refused) d
+    → areaRefusal (c .kind) (c .flags) area ≡ inBook refused → Checked c area d (is.Refused refused) d
 unfolding checkAnswer areaOrder after
 refused-checked c area refused d e = record { says = rw e; holds = rw e }
 
@@ -121,10 +117,7 @@ module _ (c : Context) (area : List ℕ) (fit : arrivalOf (c .kind) (c .flags) (
           record { says = rw (counted, accepted, t); holds = rw (accepted, t) same }
 
       -- it stands at the start of the buffer of the first pass, where that has room for it
-      pub list-few : (held : List ℕ)
-          → needed ≤ length e
-          → needed ≤ length d
-          → held ≡ over (take needed p) d
+      pub list-few : (held : List ℕ) → needed ≤ length e → needed ≤ length d → held ≡ over (take needed p) d
           → Checked c area d (is.List needed) held
       unfolding over
       list-few held few h same =
@@ -135,9 +128,7 @@ module _ (c : Context) (area : List ℕ) (fit : arrivalOf (c .kind) (c .flags) (
           list-given held h (same ∙ ap (λ (l : List ℕ). over l d) there)
 
       -- else another pass lays it
-      pub list-laid : (held : List ℕ) (said : Tally)
-          → needed ≤ length d
-          → PassSays c area d said held
+      pub list-laid : (held : List ℕ) (said : Tally) → needed ≤ length d → PassSays c area d said held
           → Checked c area d (is.List needed) held
       unfolding PassSays
       list-laid held said h second = list-given held h (laid said second)

@@ -28,9 +28,7 @@ Placed p [] size = p ≤ size
 Placed p (a ∷ l) size = (p ≤ a .place) × (a .number < 512) × Placed (suc (a .place)) l size
 
 -- For request 12: areas of one length whose attributes have the same views have the same list.
-pub same-views : (c : Context) (area other : List ℕ)
-    → length area ≡ length other
-    → viewsOf c (walk area) ≡ viewsOf c (walk other)
+pub same-views : (c : Context) (area other : List ℕ) → length area ≡ length other → viewsOf c (walk area) ≡ viewsOf c (walk other)
     → listOf c area ≡ listOf c other
 unfolding listOf
 same-views c area other s v = ap₂ (breaches c) s v
@@ -149,14 +147,12 @@ name-low n h = go (ltb n 256) refl
     go false p = omega arith
 
 module _ (c : Context) where
-  at-ordered : (seen : List ℕ) (x : View)
-      → x .number < 512
+  at-ordered : (seen : List ℕ) (x : View) → x .number < 512
       → Ordered (x .place * 1048576) (atAttribute c seen x) (suc (x .place) * 1048576)
   unfolding entry atAttribute brokenBy
   at-ordered seen x h = omega (arith, name-low (x .number) h)
 
-  along-ordered : (p size : ℕ) (seen : List ℕ) (l : List Attribute)
-      → Placed p l size
+  along-ordered : (p size : ℕ) (seen : List ℕ) (l : List Attribute) → Placed p l size
       → Ordered (p * 1048576) (along c seen (map (view c) l)) (size * 1048576)
   unfolding along view
   along-ordered p size seen [] h = omega arith
@@ -246,8 +242,7 @@ among-after a (x ∷ l) (inr m) =
     (x ∷ r .0, record { later = r .1 .later; whole = ap (λ (t : List Attribute). x ∷ t) (r .1 .whole) })
 
 along-among : (c : Context) (d : Candidate) (seen : List ℕ) (earlier : List Attribute) (a : Attribute) (later : List Attribute)
-    → Among d (atAttribute c (seen ++ carriedBy earlier) (view c a))
-    → Among d (along c seen (map (view c) (earlier ++ a ∷ later)))
+    → Among d (atAttribute c (seen ++ carriedBy earlier) (view c a)) → Among d (along c seen (map (view c) (earlier ++ a ∷ later)))
 unfolding along view
 along-among c d seen [] a later m =
     among-left d (atAttribute c seen (view c a)) (along c (seen ++ a .number ∷ []) (map (view c) later)) (rw append-nil at m)
@@ -256,8 +251,7 @@ along-among c d seen (x ∷ earlier) a later m =
     (along-among c d (seen ++ x .number ∷ []) earlier a later (rw append-assoc m))
 
 module _ (c : Context) (size : ℕ) (l : List Attribute) (e : ℕ) where
-  at-chosen : (a : Attribute) (earlier : List Attribute)
-      → After l a earlier
+  at-chosen : (a : Attribute) (earlier : List Attribute) → After l a earlier
       → (d : Candidate) → Among d (atAttribute c (carriedBy earlier) (view c a)) → T (d .stands) → e ≡ d .key → Chosen e (before c size l)
   at-chosen a earlier s d m t p =
       record { which = d; among = rw (s .whole) (along-among c d [] earlier a (s .later) m); passes = t; named = p }

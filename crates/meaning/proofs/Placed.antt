@@ -17,9 +17,7 @@ placed-lower : (p q size : ℕ) (l : List Attribute) → p ≤ q → Placed q l 
 placed-lower p q size [] h w = omega arith
 placed-lower p q size (a ∷ l) h w = (omega arith, w .1, w .2)
 
-onward-placed : (p : ℕ) (l : List ℕ) (rest : ℕ → Walk) (to : ℕ)
-    → p ≤ to
-    → ((k : ℕ) → Placed (suc p) (attributes (rest k)) to)
+onward-placed : (p : ℕ) (l : List ℕ) (rest : ℕ → Walk) (to : ℕ) → p ≤ to → ((k : ℕ) → Placed (suc p) (attributes (rest k)) to)
     → (f : Found) → FoundIn l f → Placed p (attributes (onward p l rest f)) to
 unfolding attributes
 onward-placed p l rest to h placed (attribute n head size) g = (omega arith, g .low, placed _)
@@ -39,8 +37,7 @@ pub walk-placed : (area : List ℕ) → Octets area → Placed 0 (attributes (wa
 unfolding walk walkAt
 walk-placed area o = from-placed 0 0 area (length area) o (zero-add (length area))
 
-pub list-lists : (c : Context) (area : List ℕ)
-    → Octets area
+pub list-lists : (c : Context) (area : List ℕ) → Octets area
     → Lists (listOf c area) (Breach c (length area) (attributes (walk area)))
 unfolding listOf
 list-lists c area o = breaches-lists c (length area) (attributes (walk area)) (walk-placed area o)

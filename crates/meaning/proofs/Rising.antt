@@ -38,12 +38,8 @@ among-from b [] r e m = absurd m
 among-from b (x ∷ l) r e (inl p) = omega arith
 among-from b (x ∷ l) r e (inr m) = let h = among-from (suc x) l (r .1) e m in omega arith
 
-same-rising : (b : ℕ) (l m : List ℕ)
-    → RisingFrom b l
-    → RisingFrom b m
-    → ((e : ℕ) → Among e l → Among e m)
-    → ((e : ℕ) → Among e m → Among e l)
-    → l ≡ m
+same-rising : (b : ℕ) (l m : List ℕ) → RisingFrom b l → RisingFrom b m → ((e : ℕ) → Among e l → Among e m)
+    → ((e : ℕ) → Among e m → Among e l) → l ≡ m
 same-rising b [] [] r s f g = refl
 same-rising b [] (y ∷ m) r s f g = absurd (g y (inl refl))
 same-rising b (x ∷ l) [] r s f g = absurd (f x (inl refl))
@@ -160,9 +156,7 @@ pub each-append : (P : ℕ → Type 0) (cs ds : List Candidate) → Each P cs �
 each-append P [] ds f g = g
 each-append P (c ∷ cs) ds f g = (f .0, each-append P cs ds (f .1) g)
 
-pub each-map : (P : ℕ → Type 0) (f : ℕ → Candidate) (l : List ℕ)
-    → ((n : ℕ) → T (f n .stands) → P (f n .key))
-    → Each P (map f l)
+pub each-map : (P : ℕ → Type 0) (f : ℕ → Candidate) (l : List ℕ) → ((n : ℕ) → T (f n .stands) → P (f n .key)) → Each P (map f l)
 each-map P f [] g = tt
 each-map P f (n ∷ l) g = (g n, each-map P f l g)
 
@@ -174,11 +168,8 @@ each-chosen P cs f e r = go cs f (r .among)
     go (c ∷ cs) f (inl p) = rw (r .named, p) (f .0 (rw p at (r .passes)))
     go (c ∷ cs) f (inr m) = go cs (f .1) m
 
-pub chosen-lists : (P : ℕ → Type 0) (b t : ℕ) (cs : List Candidate)
-    → Ordered b cs t
-    → ((e : ℕ) → Chosen e cs → P e)
-    → ((e : ℕ) → P e → Chosen e cs)
-    → Lists (chosen cs) P
+pub chosen-lists : (P : ℕ → Type 0) (b t : ℕ) (cs : List Candidate) → Ordered b cs t → ((e : ℕ) → Chosen e cs → P e)
+    → ((e : ℕ) → P e → Chosen e cs) → Lists (chosen cs) P
 chosen-lists P b t cs o sound whole =
     record {
       rising = rising-lower 0 b (chosen cs) (omega arith) (chosen-rising b t cs o);

@@ -22,9 +22,7 @@ answerTo read kind flags area = unless (areaRefusal kind flags area) (sheetOf ki
 answerTo check kind flags area = unless (areaRefusal kind flags area) (listOf (comes kind flags) area)
 
 -- a computed answer means what document 01 says
-meant : (job : Job) (kind flags : ℕ) (area : List ℕ) (a : Answer (List ℕ))
-    → Octets area
-    → answerTo job kind flags area ≡ a
+meant : (job : Job) (kind flags : ℕ) (area : List ℕ) (a : Answer (List ℕ)) → Octets area → answerTo job kind flags area ≡ a
     → Meant job kind flags area a
 meant read kind flags area (given s) o e =
     let u = unless-given (areaRefusal kind flags area) (sheetOf kind flags area) s e in
@@ -51,8 +49,7 @@ computed : map (λ (c : Case). answerTo (c .job) (c .kind) (c .flags) (c .area))
 unfolding computing
 computed = refl
 
-each : (l : List Case)
-    → Each (λ (c : Case). T (all (λ x. ltb x 256) (c .area))) l
+each : (l : List Case) → Each (λ (c : Case). T (all (λ x. ltb x 256) (c .area))) l
     → map (λ (c : Case). answerTo (c .job) (c .kind) (c .flags) (c .area)) l ≡ map (λ (c : Case). c .says) l
     → Each (λ (c : Case). Meant (c .job) (c .kind) (c .flags) (c .area) (c .says)) l
 each [] o e = tt

@@ -9,7 +9,7 @@ use lib.Dec.{T, leb}
 use lib.ListN.{length, getD}
 use borrow.Author.Tests.{leb-true, le-leb}
 use Rattle.meaning.specs.Octets.{same}
-use Rattle.meaning.specs.Jobs.{isKind, Context, comes}
+use Rattle.meaning.specs.Jobs.{isKind, Context}
 use Rattle.meaning.specs.Presence.{mandatory}
 use Rattle.meaning.specs.Codes.{code}
 use Rattle.meaning.proofs.Tests.{parts, same-one}
@@ -18,8 +18,7 @@ use Rattle.presence.specs.Rows.{built, rowBy, rowOf, agrees, byKind}
 -- ---- By the test
 
 -- Each row of a table that agrees with a rule is the rule's.
-pub row-of-test : (rule : (row number : ℕ) → ℕ) (i n : ℕ) (table : List (List ℕ)) (none : List ℕ)
-    → T (agrees rule i n table)
+pub row-of-test : (rule : (row number : ℕ) → ℕ) (i n : ℕ) (table : List (List ℕ)) (none : List ℕ) → T (agrees rule i n table)
     → (k : ℕ) → k < n → getD table k none ≡ rowBy (rule (i + k))
 unfolding agrees
 row-of-test rule i zero table none t k h = absurd (not-suc-le-zero h)

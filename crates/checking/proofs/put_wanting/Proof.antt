@@ -1,6 +1,5 @@
 -- `checking::put_wanting` meets its contract: the loop has laid what the numbers before i break. Assumes nothing.
 use Prim.Native.Nat.{_-_}
-use mathlib.Core.Path.{refl}
 use borrow.Author.Needs.{needs}
 use native.Mathlib.Omega.{arith}
 use Rattle.meaning.specs.Jobs.{comes}
