@@ -74,7 +74,7 @@ broken-here l out left place written k j some e =
     rw f
 
 -- where a refusal applies, nothing is said of the buffer
-pub refused-by : (by : book.Refusal) (l out : List ℕ) (n s : ℕ) → by ≡ refusal n s → Transcribed by l (refusedAs n s) out
+refused-by : (by : book.Refusal) (l out : List ℕ) (n s : ℕ) → by ≡ refusal n s → Transcribed by l (refusedAs n s) out
 refused-by by l out n s e = record { says = rw e; holds = λ q. absurd (let z : _≡_ {A = ℕ} 0 1 = cc in omega arith) }
 
 module _ (l d : List ℕ) (left place written : ℕ) (j : Transcribing l d left place written) (some : 0 < left) (o : Octets l) (r : Headed)

@@ -22,13 +22,14 @@ use Rattle.octets.specs.Handing.{handing, Handed}
 use Rattle.octets.proofs.Overs.{laid-first}
 use Rattle.octets.proofs.Handing.{handed-not, handed-over}
 use Rattle.area.specs.declared.Refusal.{Refusal}
+use Rattle.writing.specs.declared.Front.{Front}
+use Rattle.writing.specs.declared.Front.the-variants as front
 use Rattle.writing.specs.declared.Judgement.{Judgement}
 use Rattle.writing.specs.declared.Judgement.the-variants as judgement
 use Rattle.writing.specs.declared.Writing.{Writing}
 use Rattle.writing.specs.declared.Writing.the-variants.{Area, Refused}
 use Rattle.writing.specs.Attributes.{span}
-use Rattle.writing.specs.Answers.{refusedAs, judgementFrom, judgementBy, itemsRefusal, sizeOf, Transcribed, areaSaid, HandedOver, writingOf, Wrote}
-use Rattle.writing.proofs.Transcribing.{refused-by}
+use Rattle.writing.specs.Answers.{frontRefusal, frontFrom, frontOf, judgementOf, judgementBy, itemsRefusal, sizeOf, Transcribed, areaSaid, HandedOver, writingOf, Wrote}
 
 -- a marked sheet has its nine octets
 pub marked-nine : (l : List ℕ) → marked l ≡ true → 9 ≤ length l
@@ -37,22 +38,59 @@ marked-nine l e = leb→le 9 (length l) (parts (leb 9 (length l)) _ (passes _ e)
 
 -- ---- The judgement
 
-module _ (l buf : List ℕ) where
-  pub judged-20 : marked l ≡ false → Transcribed (judged l) l (refusedAs 20 0) buf
-  unfolding judged sheetRefusal
-  judged-20 m = refused-by (judged l) l buf 20 0 (rw m)
+-- kind and flags are allowed
+abbrev allowed : List ℕ → Bool
+allowed l = isKind (kindIn l) && areFlags (flagsIn l)
+
+module _ (l : List ℕ) where
+  pub front-20 : marked l ≡ false → frontFrom (refusal 20 0) ≡ frontOf l
+  unfolding frontOf frontRefusal
+  front-20 m = rw m
 
   -- what the tests of kind and flags say
   module _ (m : marked l ≡ true) (a b : Bool) (p : a ≡ isKind (kindIn l)) (q : b ≡ areFlags (flagsIn l)) where
-    pub judged-21 : not (a && b) ≡ true → Transcribed (judged l) l (refusedAs 21 0) buf
-    unfolding judged sheetRefusal
-    judged-21 e = refused-by (judged l) l buf 21 0 (rw (m, sym p, sym q, e))
+    pub front-21 : not (a && b) ≡ true → frontFrom (refusal 21 0) ≡ frontOf l
+    unfolding frontOf frontRefusal
+    front-21 e = rw (m, sym p, sym q, e)
 
-    pub judged-on : not (a && b) ≡ false → (r : Judgement) → Transcribed (itemsRefusal l) l r buf → Transcribed (judged l) l r buf
-    unfolding judged sheetRefusal itemsRefusal
-    judged-on e r t =
-        let same : itemsRefusal l ≡ judged l = rw (m, sym p, sym q, e) in
-        subst (λ (by : book.Refusal). Transcribed by l r buf) same t
+    pub front-fit : not (a && b) ≡ false → front.Fit ≡ frontOf l
+    unfolding frontOf frontRefusal
+    front-fit e = rw (m, sym p, sym q, e)
+
+  -- by what the front says
+  module _ (r : Front) (says : r ≡ frontOf l) where
+    pub judged-front : (x : Refusal) → r ≡ front.Refused x → judged l ≡ refusal (x .number) (x .second)
+    unfolding frontOf frontRefusal judged sheetRefusal
+    judged-front x e = go (marked l) refl (allowed l) refl (sym e ∙ says)
+      where
+        go : (m : Bool) → marked l ≡ m → (a : Bool) → allowed l ≡ a → front.Refused x ≡ frontOf l → judged l ≡ refusal (x .number) (x .second)
+        go false p a q h = let is : x ≡ record { number = 20; second = 0 } = (let g : front.Refused x ≡ frontFrom (refusal 20 0) = rw p at h in cc) in rw (p, is)
+        go true p false q h = let is : x ≡ record { number = 21; second = 0 } = (let g : front.Refused x ≡ frontFrom (refusal 21 0) = rw (p, q) at h in cc) in rw (p, q, is)
+        go true p true q h = absurd (let g : front.Refused x ≡ front.Fit = rw (p, q) at h in let z : _≡_ {A = ℕ} 0 1 = cc in omega arith)
+
+    module _ (e : r ≡ front.Fit) where
+      passed-front : (marked l ≡ true) × (allowed l ≡ true)
+      unfolding frontOf frontRefusal
+      passed-front = go (marked l) refl (allowed l) refl (sym e ∙ says)
+        where
+          go : (m : Bool) → marked l ≡ m → (a : Bool) → allowed l ≡ a → front.Fit ≡ frontOf l → (marked l ≡ true) × (allowed l ≡ true)
+          go false p a q h = absurd (let g : front.Fit ≡ frontFrom (refusal 20 0) = rw p at h in let z : _≡_ {A = ℕ} 0 1 = cc in omega arith)
+          go true p false q h = absurd (let g : front.Fit ≡ frontFrom (refusal 21 0) = rw (p, q) at h in let z : _≡_ {A = ℕ} 0 1 = cc in omega arith)
+          go true p true q h = (p, q)
+
+      pub front-nine : 9 ≤ length l
+      front-nine = marked-nine l (passed-front .0)
+
+      pub judged-on : (j : Judgement) (buf : List ℕ) → Transcribed (itemsRefusal l) l j buf → Transcribed (judged l) l j buf
+      unfolding judged sheetRefusal itemsRefusal
+      judged-on j buf t =
+          let same : itemsRefusal l ≡ judged l = rw (passed-front .0, passed-front .1) in
+          subst (λ (by : book.Refusal). Transcribed by l j buf) same t
+
+-- the judgement without a buffer
+pub judged-refused : (l : List ℕ) (x : Refusal) → judged l ≡ refusal (x .number) (x .second) → judgement.Refused x ≡ judgementOf l
+unfolding judgementOf
+judged-refused l x e = rw e
 
 -- a written area has at most 4,076 octets
 pub size-short : (l buf : List ℕ) (j : Judgement) → Transcribed (judged l) l j buf → sizeOf j ≤ 4076
@@ -102,6 +140,11 @@ answered : (r : book.Refusal) (w : meant.Written) → (d : List ℕ) (said : Wri
 unfolding areaAnswer
 answered none w d said held p = p
 answered (refusal n s) w d said held p = p
+
+-- A refusal that was judged leaves the buffer as it was.
+pub refused-wrote : (l d : List ℕ) (x : Refusal) → judged l ≡ refusal (x .number) (x .second) → Wrote l d (Refused x) d
+unfolding writeAnswer areaAnswer after
+refused-wrote l d x e = record { says = rw e; holds = rw e }
 
 -- What is handed over of a judged sheet, by a buffer with room behind its area, is what writing answers.
 pub written : (l made d : List ℕ) (j : Judgement) (said : Writing) (held : List ℕ) → Transcribed (judged l) l j made

@@ -2,13 +2,17 @@
 use Prim.Native.Nat.{ℕ, _+_, _≤_}
 use mathlib.Core.Path.{_≡_}
 use mathlib.Core.List.{List}
+use mathlib.Core.Bool.{not, _&&_}
 use lib.Dec.{ltb}
 use lib.ListN.{length, take}
+use Rattle.meaning.specs.Jobs.{isKind, areFlags}
 use Rattle.meaning.specs.Refusals as book
-use Rattle.meaning.specs.Sheet.{itemsIn, kindIn, flagsIn, areaIn, judged}
+use Rattle.meaning.specs.Sheet.{itemsIn, kindIn, flagsIn, areaIn, marked, judged}
 use Rattle.meaning.specs.Answers as meant
 use Rattle.octets.specs.Handing.{Handed}
 use Rattle.writing.specs.Attributes.{span}
+use Rattle.writing.specs.declared.Front.{Front}
+use Rattle.writing.specs.declared.Front.the-variants as front
 use Rattle.writing.specs.declared.Judgement.{Judgement}
 use Rattle.writing.specs.declared.Judgement.the-variants as judgement
 use Rattle.writing.specs.declared.Writing.{Writing}
@@ -32,6 +36,19 @@ judgementBy r sheet = judgementFrom r (length (areaIn sheet)) (kindIn sheet) (fl
 -- what a sheet is judged by the first of 20 to 24 that applies
 unfoldable pub judgementOf : (sheet : List ℕ) → Judgement
 judgementOf sheet = judgementBy (judged sheet) sheet
+
+-- 20 or 21, where one applies
+unfoldable pub frontRefusal : (sheet : List ℕ) → book.Refusal
+frontRefusal sheet =
+    book.first (book.when (not (marked sheet)) 20 0) (book.when (not (isKind (kindIn sheet) && areFlags (flagsIn sheet))) 21 0)
+
+abbrev pub frontFrom : book.Refusal → Front
+frontFrom book.none = front.Fit
+frontFrom (book.refusal n s) = front.Refused (record { number = n; second = s })
+
+-- what the front of a sheet says
+unfoldable pub frontOf : (sheet : List ℕ) → Front
+frontOf sheet = frontFrom (frontRefusal sheet)
 
 -- the first of 22 to 24 that applies to the items of a sheet
 unfoldable pub itemsRefusal : (sheet : List ℕ) → book.Refusal

@@ -10,13 +10,13 @@ ghost use lib.ListN.{length, take};
 ghost use Rattle.meaning.specs.Versions.{current};
 ghost use Rattle.meaning.specs.Octets.{digitText, text, unpack, packedLength};
 ghost use Rattle.meaning.specs.Shapes.{shapeOf};
-ghost use Rattle.meaning.specs.Sheet.{marked, judged, storedLength};
+ghost use Rattle.meaning.specs.Sheet.{marked, storedLength};
 ghost use Rattle.octets.specs.Parts.{laidAt};
 ghost use Rattle.meaning.specs.Framing.{headLength};
 ghost use Rattle.shape.specs.Codes.{codeOf, shapeBy};
 ghost use Rattle.item.specs.Stands.{raw, shaped, standsAs};
 ghost use Rattle.writing.specs.Attributes.{span, profileText, valueAs, attributeFront, lengthsAt, Digited, Laying, Attributed};
-ghost use Rattle.writing.specs.Answers.{refusedAs, endedAs, itemsRefusal, Transcribed, judgementOf, sizeOf, HandedOver, Wrote};
+ghost use Rattle.writing.specs.Answers.{frontOf, refusedAs, endedAs, itemsRefusal, Transcribed, judgementOf, sizeOf, HandedOver, Wrote};
 
 // 24: "the attribute area would exceed 4,076 octets".
 const LONGEST: usize = 4076;
@@ -47,6 +47,12 @@ pub enum Writing {
 // What a sheet is judged: written, with the octets of its area, its kind and its flags, or refused.
 pub enum Judgement {
     Writable { size: usize, kind: u8, flags: u8 },
+    Refused(Refusal),
+}
+
+// What the front of a sheet says: that its items are to be judged, or 20 or 21.
+enum Front {
+    Fit,
     Refused(Refusal),
 }
 
@@ -350,26 +356,38 @@ fn transcribe(sheet: &[u8], buf: &mut [u8]) -> Judgement
     ended(sheet, place, written)
 }
 
-// "For write: 20, 21, items from the left": the first of 20 to 24, or that the sheet is written; its area is laid into a buffer.
-fn judge_by(sheet: &[u8], buf: &mut [u8]) -> Judgement
-    requires { ⌜ span ≤ length (now buf) ⌝ }
-    ensures { λ r. ⌜ Transcribed (judged (now (sheet .entry))) (now (sheet .entry)) r (now (buf .exit)) ⌝ }
+// "For write: 20, 21, items from the left": whether it is the items' turn.
+fn front_of(sheet: &[u8]) -> Front
+    ensures { λ r. ⌜ r ≡ frontOf (now (sheet .entry)) ⌝ }
 {
     if !is_marked(sheet) {
-        return refused(20, 0);
+        return Front::Refused(Refusal {
+            number: 20,
+            second: 0,
+        });
     }
     if !(area::is_kind(octets::wide32(sheet[5])) & area::are_flags(octets::wide32(sheet[6]))) {
-        return refused(21, 0);
+        return Front::Refused(Refusal {
+            number: 21,
+            second: 0,
+        });
     }
-    transcribe(sheet, buf)
+    Front::Fit
 }
 
 // Whether a sheet is written, given room, or the first of refusals 20 to 24.
 pub fn judge(sheet: &[u8]) -> Judgement
     ensures { λ r. ⌜ r ≡ judgementOf (now (sheet .entry)) ⌝ }
 {
-    let mut buf = [0u8; SPAN];
-    judge_by(sheet, &mut buf)
+    match front_of(sheet) {
+        Front::Refused(refusal) => {
+            return Judgement::Refused(refusal);
+        }
+        Front::Fit => {
+            let mut buf = [0u8; SPAN];
+            return transcribe(sheet, &mut buf);
+        }
+    }
 }
 
 // The octets of the area that a judgement tells of, 0 where it tells of none.
@@ -414,14 +432,21 @@ fn hand_over(said: Judgement, made: &[u8], area: &mut [u8]) -> Writing
 pub fn write(sheet: &[u8], area: &mut [u8]) -> Writing
     ensures { λ r. ⌜ Wrote (now (sheet .entry)) (now (area .entry)) r (now (area .exit)) ⌝ }
 {
-    if sheet.len() <= SHORT_SHEET {
-        let mut buf = [0u8; SHORT_ROOM];
-        let said = judge_by(sheet, &mut buf);
-        if size_of(said) <= SHORT_AREA {
+    match front_of(sheet) {
+        Front::Refused(refusal) => {
+            return Writing::Refused(refusal);
+        }
+        Front::Fit => {
+            if sheet.len() <= SHORT_SHEET {
+                let mut buf = [0u8; SHORT_ROOM];
+                let said = transcribe(sheet, &mut buf);
+                if size_of(said) <= SHORT_AREA {
+                    return hand_over(said, &buf, area);
+                }
+            }
+            let mut buf = [0u8; ROOM];
+            let said = transcribe(sheet, &mut buf);
             return hand_over(said, &buf, area);
         }
     }
-    let mut buf = [0u8; ROOM];
-    let said = judge_by(sheet, &mut buf);
-    hand_over(said, &buf, area)
 }
