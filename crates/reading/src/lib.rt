@@ -15,8 +15,6 @@ ghost use Rattle.meaning.specs.Octets.{octetsOf, pack, packedLength, digitValue
 ghost use Rattle.octets.specs.Parts.{laidAt, Begun};
 ghost use Rattle.octets.specs.Handing.{Handed};
 ghost use Rattle.octets.specs.DigitStrings.{halves};
-ghost use Rattle.area.specs.Answers.{arrivalOf};
-ghost use Rattle.area.specs.declared.Arrival.the-variants.{Fit};
 ghost use Rattle.shape.specs.Items.{storedPart, storedIn};
 ghost use Rattle.reading.specs.Items.{namesOf, itemIn, Within, LaidCounted, sheetHead, PassSays, Concluding};
 ghost use Rattle.reading.specs.Answers.{readingOf, Read};

@@ -5,7 +5,6 @@ use mathlib.Core.List.{List}
 use Prim.Native.Nat.{ℕ, _+_, _≤_, _<_}
 use native.Mathlib.Omega.{arith}
 use lib.Dec.{leb, leb→le}
-use borrow.Author.Tests.{not-true, not-false}
 use lib.ListN.{length, take}
 use lib.Seq.{length-take-le}
 use Rattle.meaning.specs.Octets.{same}
