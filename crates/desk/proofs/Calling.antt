@@ -4,7 +4,6 @@ use mathlib.Core.List.{List}
 use Prim.Native.Nat.{ℕ, _≤_}
 use native.Mathlib.Omega.{arith}
 use lib.ListN.{length, take}
-use Rattle.meaning.specs.Versions.{current}
 use Rattle.meaning.specs.Refusals.{none, refusal}
 use Rattle.meaning.specs.Refusals as book
 use Rattle.meaning.specs.Sheet.{versionIn, sheetAs, Readable}

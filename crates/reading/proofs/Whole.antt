@@ -1,7 +1,7 @@
 -- The whole sheet: its head and its items one behind the other, and what reading answers. Assumes nothing.
 use mathlib.Core.Path.{_≡_, refl, sym, ap, subst, _∙_}
 use mathlib.Core.List.{List, _++_}
-use Prim.Native.Nat.{ℕ, _+_, _*_, _≤_, _<_}
+use Prim.Native.Nat.{ℕ, _+_, _≤_, _<_}
 use native.Mathlib.Omega.{arith}
 use lib.ListN.{length, take, length-append}
 use lib.Seq.{length-take-le}
@@ -9,10 +9,10 @@ use Rattle.meaning.specs.Versions.{current}
 use Rattle.meaning.specs.Octets.{Octets, octetsOf}
 use Rattle.meaning.specs.Framing.{walk, attributes}
 use Rattle.meaning.specs.Refusals.{none, fault, areaRefusal, areaOrder}
-use Rattle.meaning.specs.Sheet.{sheetWith, sheetOf, Readable, sheetAs, sheetHead}
+use Rattle.meaning.specs.Sheet.{sheetHead, sheetWith, sheetAs, sheetOf}
 use Rattle.meaning.specs.Answers.{Answer, refused, over, after, readAnswer, Promise}
 use Rattle.meaning.proofs.Sheets.{clear}
-use Rattle.meaning.proofs.Bounds.{sheet-bound, items-fit, kind-octet, flags-octet}
+use Rattle.meaning.proofs.Bounds.{items-fit, kind-octet, flags-octet}
 use Rattle.octets.specs.Parts.{laidAt}
 use Rattle.octets.specs.Handing.{handing, Handed}
 use Rattle.octets.proofs.Overs.{laid-first, laid-behind}

@@ -4,7 +4,6 @@ use mathlib.Core.Path.{_≡_}
 use mathlib.Core.List.{List, [], _∷_, _++_}
 use lib.ListN.{length, take}
 use Rattle.meaning.specs.Versions.{current}
-use Rattle.meaning.specs.Octets.{octetsOf}
 use Rattle.meaning.specs.Framing.{walk, attributes}
 use Rattle.meaning.specs.Refusals.{none, fault}
 use Rattle.meaning.specs.Sheet.{typeOf, subOf, itemsOf}

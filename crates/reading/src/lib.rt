@@ -17,8 +17,6 @@ ghost use Rattle.meaning.specs.Sheet.{sheetHead};
 ghost use Rattle.octets.specs.Parts.{laidAt, Begun};
 ghost use Rattle.octets.specs.Handing.{Handed};
 ghost use Rattle.octets.specs.DigitStrings.{halves};
-ghost use Rattle.area.specs.Answers.{arrivalOf};
-ghost use Rattle.area.specs.declared.Arrival.the-variants.{Fit};
 ghost use Rattle.shape.specs.Items.{storedPart, storedIn};
 ghost use Rattle.reading.specs.Items.{namesOf, itemIn, Within, LaidCounted, PassSays, Concluding};
 ghost use Rattle.reading.specs.Answers.{readingOf, Read};

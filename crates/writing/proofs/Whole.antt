@@ -5,16 +5,15 @@ use mathlib.Core.List.{List}
 use Prim.Native.Nat.{ℕ, _+_, _≤_, _<_}
 use native.Mathlib.Omega.{arith}
 use lib.Dec.{leb, leb→le}
-use borrow.Author.Tests.{not-true, not-false}
 use lib.ListN.{length, take}
 use lib.Seq.{length-take-le}
 use Rattle.meaning.specs.Octets.{same, octetsOf}
 use Rattle.meaning.specs.Jobs.{isKind, areFlags}
 use Rattle.meaning.specs.Refusals as book
-use Rattle.meaning.specs.Refusals.{none, refusal, first, tooShort, sheetRefusal}
-use Rattle.meaning.specs.Sheet.{mark, kindIn, flagsIn, areaIn, marked, judged}
+use Rattle.meaning.specs.Refusals.{none, refusal, tooShort, sheetRefusal}
+use Rattle.meaning.specs.Sheet.{kindIn, flagsIn, areaIn, marked, judged}
 use Rattle.meaning.specs.Answers as meant
-use Rattle.meaning.specs.Answers.{unless, over, after, writeAnswer, areaAnswer}
+use Rattle.meaning.specs.Answers.{unless, after, writeAnswer, areaAnswer}
 use Rattle.meaning.proofs.Tests.{parts, passes}
 use Rattle.meaning.proofs.Sheets.{passed}
 use Rattle.octets.specs.Parts.{laidAt}
