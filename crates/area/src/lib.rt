@@ -7,6 +7,9 @@ ghost use Rattle.meaning.specs.Framing.{headLength, vendorFound, foundAt};
 ghost use Rattle.meaning.specs.Framing as meant;
 ghost use Rattle.area.specs.Answers.{stepOf, numberAt, carriedAt, arrivalOf};
 
+// "vendor 10415"
+pub const VENDOR_3GPP: u32 = 10415;
+
 // A refusal of the book: its number and its second number.
 pub struct Refusal {
     pub number: u32,
@@ -91,7 +94,7 @@ fn vendor_step(area: &[u8], place: usize, size: usize) -> Step
     if size < 7 {
         return refused(7, place);
     }
-    if octets::u32_at(area, place + 2) != 10415 {
+    if octets::u32_at(area, place + 2) != VENDOR_3GPP {
         return attribute(26, place, 2, size);
     }
     // A string of one octet has no room for m.
@@ -145,7 +148,7 @@ fn number_at(area: &[u8], place: usize) -> u16
         return plain(t);
     }
     let vendor = octets::u32_at(area, place + 2);
-    if vendor != 10415 {
+    if vendor != VENDOR_3GPP {
         return plain(t);
     }
     gpp(octets::octet_at(area, place + 6))

@@ -47,14 +47,14 @@ pub fn number_in(t: u8, sub: u8, form: u8) -> u16
     256 + (sub as u16)
 }
 
-// Whether a value is another vendor's: its id, which is not 10415, and something behind it.
+// Whether a value is another vendor's: its id, which is not 3GPP's, and something behind it.
 fn other_vendor(value: &[u8]) -> bool
     ensures { λ r. ⌜ r ≡ otherVendor (now (value .entry)) ⌝ }
 {
     if value.len() < 5 {
         return false;
     }
-    octets::u32_at(value, 0) != 10415
+    octets::u32_at(value, 0) != area::VENDOR_3GPP
 }
 
 // Whether a readable attribute carries the number with this value.

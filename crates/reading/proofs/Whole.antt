@@ -25,7 +25,7 @@ use Rattle.reading.specs.declared.Reading.{Reading}
 use Rattle.reading.specs.declared.Reading.the-variants.{Sheet, Refused}
 use Rattle.reading.specs.declared.Tally.{Tally}
 use Rattle.reading.specs.declared.Tally.the-variants.{Whole, Broken}
-use Rattle.reading.specs.Items.{areaItems, ItemsLaid, PassSays, Concluding}
+use Rattle.reading.specs.Items.{longestItems, areaItems, ItemsLaid, PassSays, Concluding}
 use Rattle.reading.specs.Answers.{readingOf, Read}
 
 -- a sheet is its head and its items
@@ -97,7 +97,7 @@ module _ (kind flags : ℕ) (area : List ℕ) (r : Tally) (made : List ℕ) (k :
     sheet-is = ap (λ (l : List ℕ). sheetHead current kind flags count ++ l) (laid .holds) ∙ sym (sheet-parts kind flags count area (laid .counts))
 
     -- what handing over asks for
-    pub bounded : Octets area → (kind < 256) × (flags < 256) × (count < 65536) × (length (take written made) ≤ 8152)
+    pub bounded : Octets area → (kind < 256) × (flags < 256) × (count < 65536) × (length (take written made) ≤ longestItems)
     bounded o =
         let c = clear kind flags area accepted in
         let fit = items-fit kind flags area (record { octets = o; accepted = accepted }) in

@@ -17,6 +17,10 @@ use Rattle.shape.specs.Items.{storedIn}
 use Rattle.reading.specs.declared.Tally.{Tally}
 use Rattle.reading.specs.declared.Tally.the-variants.{Whole, Broken}
 
+-- "A sheet is never longer than 9 + 2 x area length": the octets that the items of an area can have
+abbrev pub longestItems : ℕ
+longestItems = 2 * 4076
+
 -- "type, sub-attribute number" of a carried number
 unfoldable pub namesOf : (number : ℕ) → List ℕ
 namesOf n = typeOf n ∷ subOf n ∷ []

@@ -18,7 +18,7 @@ ghost use Rattle.octets.specs.Parts.{laidAt, Begun};
 ghost use Rattle.octets.specs.Handing.{Handed};
 ghost use Rattle.octets.specs.DigitStrings.{halves};
 ghost use Rattle.shape.specs.Items.{storedPart, storedIn};
-ghost use Rattle.reading.specs.Items.{namesOf, itemIn, Within, LaidCounted, PassSays, Concluding};
+ghost use Rattle.reading.specs.Items.{longestItems, namesOf, itemIn, Within, LaidCounted, PassSays, Concluding};
 ghost use Rattle.reading.specs.Answers.{readingOf, Read};
 
 // "A sheet is never longer than 9 + 2 x area length": room for the items of any area, of up to 4,076 octets, and for sixteen octets more.
@@ -233,7 +233,7 @@ fn sheet_head(kind: u32, flags: u32, count: usize) -> [u8; 9]
 
 // Lays a sheet, its head and its items, at the buffer's start; or refusal 9 where it has not the room.
 fn hand_over(kind: u32, flags: u32, count: usize, items: &[u8], sheet: &mut [u8]) -> Reading
-    requires { ⌜ (kind < 256) × (flags < 256) × (count < 65536) × (length (now items) ≤ 8152) ⌝ }
+    requires { ⌜ (kind < 256) × (flags < 256) × (count < 65536) × (length (now items) ≤ longestItems) ⌝ }
     ensures { λ r. ⌜ Handed readingOf 9 (sheetHead current kind flags count ++ now (items .entry)) (now (sheet .entry)) r (now (sheet .exit)) ⌝ }
 {
     let needed = 9 + items.len();

@@ -12,7 +12,7 @@ use types.Run.{OneOf}
 use Rattle.meaning.specs.Octets.{isIn}
 use Rattle.meaning.specs.Shapes.{Shape, number, address, digits, hexadecimal, qos, hexDigit, anyOctet, decimalDigit, atLeast, exactly, blocks, free, plainShape, gppShape, shapeOf}
 use Rattle.meaning.specs.Sheet.{formOf}
-use Rattle.meaning.proofs.Tests.{parts}
+use Rattle.meaning.proofs.Tests.{below, below-at}
 use Rattle.shape.specs.Codes.{codeOf, shapeBy}
 use Rattle.shape.proofs.Codes.{shape-back, PastArms, past-before, alone, Past}
 
@@ -35,27 +35,14 @@ past-not-in before n [] p = refl
 past-not-in before n (l ∷ arms) p =
     not-one n l (named arms) (past-before (before × (OneOf l n → ⊥)) n arms p .1) (past-not-in (before × (OneOf l n → ⊥)) n arms p)
 
--- a test passes at each number below a bound
-abbrev below : (ℕ → Bool) → ℕ → Bool
-below p zero = true
-below p (suc n) = p n && below p n
-
-below-at : (p : ℕ → Bool) (bound n : ℕ) → T (below p bound) → n < bound → T (p n)
-below-at p zero n t h = absurd (omega (arith, h))
-below-at p (suc b) n t h = go (ltb n b) refl (below-at p b n (parts (p b) (below p b) t .1))
-  where
-    go : (less : Bool) → ltb n b ≡ less → (n < b → T (p n)) → T (p n)
-    go true e lower = lower (ltb-true n b e)
-    go false e lower = subst (λ (k : ℕ). T (p k)) (omega (arith, h, ltb-false n b e)) (parts (p b) (below p b) t .0)
-
 -- What is 0 behind the arms of a match: what is so below a bound, by computing, and from it on.
-none-other : (f : ℕ → ℕ) (arms : List (List ℕ)) (bound : ℕ) → T (below (λ n. isIn n (named arms) || eqb (f n) 0) bound)
+none-other : (f : ℕ → ℕ) (arms : List (List ℕ)) (bound : ℕ) → T (below bound (λ n. isIn n (named arms) || eqb (f n) 0))
     → ((n : ℕ) → bound ≤ n → f n ≡ 0) → (n : ℕ) → PastArms (Unit {0}) n arms → f n ≡ 0
 none-other f arms bound t above n p = go (ltb n bound) refl
   where
     go : (less : Bool) → ltb n bound ≡ less → f n ≡ 0
     go true e =
-        let known = below-at (λ (k : ℕ). isIn k (named arms) || eqb (f k) 0) bound n t (ltb-true n bound e) in
+        let known = below-at bound (λ (k : ℕ). isIn k (named arms) || eqb (f k) 0) t n (ltb-true n bound e) in
         eqb→eq (f n) 0 (subst (λ (b : Bool). T (b || eqb (f n) 0)) (past-not-in (Unit {0}) n arms p) known)
     go false e = above n (ltb-false n bound e)
 
@@ -195,14 +182,14 @@ shape-other n p =
 
 -- a test passes at the shape of each number from one to below another, but for some numbers
 abbrev passesIn : (Shape → Bool) → (but : List ℕ) (from to : ℕ) → Bool
-passesIn p but from to = below (λ k. isIn (from + k) but || p (shapeOf (from + k))) (to - from)
+passesIn p but from to = below (to - from) (λ k. isIn (from + k) but || p (shapeOf (from + k)))
 
 module _ (p : Shape → Bool) (but : List ℕ) (from : ℕ) where
   passes-in : (to : ℕ) → T (passesIn p but from to) → (n : ℕ) → isIn n but ≡ false → from ≤ n → n < to → T (p (shapeOf n))
   passes-in to t n out low high =
       let e : from + (n - from) ≡ n = omega arith in
       subst (λ (b : Bool). T (b || p (shapeOf n))) out
-      (subst (λ (k : ℕ). T (isIn k but || p (shapeOf k))) e (below-at (λ (k : ℕ). isIn (from + k) but || p (shapeOf (from + k))) (to - from) (n - from) t (omega arith)))
+      (subst (λ (k : ℕ). T (isIn k but || p (shapeOf k))) e (below-at (to - from) (λ (k : ℕ). isIn (from + k) but || p (shapeOf (from + k))) t (n - from) (omega arith)))
 
   -- and so from a number on
   passes-from : T (p free) → T (passesIn p but from 275) → (n : ℕ) → isIn n but ≡ false → from ≤ n → T (p (shapeOf n))

@@ -73,12 +73,12 @@ begun-set at s d out i x h b =
 -- ---- The head of an attribute
 
 pub plain-front : (n at : ℕ) (d : List ℕ) → n < 256 → at + headLength n ≤ length d → set d at n ≡ laidAt at (attributeFront n) d
-unfolding attributeFront
+unfolding attributeFront octetsOf
 plain-front n at d h room = each-laid at (n ∷ []) d (omega (arith, head-two n)) 0 refl ∙ rw (lt-ltb n 256 h)
 
 pub gpp-front : (n at : ℕ) (d first out : List ℕ) → 256 ≤ n → at + 8 ≤ length d → first ≡ laidAt at (26 ∷ 0 ∷ 0 ∷ 0 ∷ []) d
     → out ≡ laidAt (at + 4) (40 ∷ 175 ∷ (n - 256) ∷ 0 ∷ []) first → out ≡ laidAt at (attributeFront n) d
-unfolding attributeFront
+unfolding attributeFront octetsOf
 gpp-front n at d first out h room f e =
     e ∙ rw (f, le-ltb n 256 h) (laid-two at 4 (26 ∷ 0 ∷ 0 ∷ 0 ∷ []) (40 ∷ 175 ∷ (n - 256) ∷ 0 ∷ []) d refl room)
 

@@ -3,11 +3,11 @@
 use mathlib.Core.Path.{_≡_}
 use Prim.Native.Nat.{ℕ, _+_, _*_, _-_, _/_, _%_}
 use mathlib.Core.Bool.{Bool, true, cond}
-use mathlib.Core.List.{List, [], _∷_}
+use mathlib.Core.List.{List, [], _∷_, _++_}
 use lib.Dec.{eqb}
 use lib.ListN.{length, drop, getD, set}
-use Rattle.meaning.specs.Octets.{digitText, text, unpack}
-use Rattle.meaning.specs.Framing.{isPlain, attributeOctets}
+use Rattle.meaning.specs.Octets.{digitText, text, unpack, octetsOf}
+use Rattle.meaning.specs.Framing.{isPlain, attributeOctets, vendor3gpp}
 use Rattle.meaning.specs.Shapes.{shapeOf}
 use Rattle.octets.specs.Parts.{Begun}
 use Rattle.octets.specs.DigitStrings.{packedDigits, decimals}
@@ -20,7 +20,7 @@ span = 263
 
 -- what is laid of an attribute before its value, by the number alone: its head but for the lengths, 0 where they are to stand
 unfoldable pub attributeFront : (number : ℕ) → List ℕ
-attributeFront n = cond (isPlain n) (n ∷ []) (26 ∷ 0 ∷ 0 ∷ 0 ∷ 40 ∷ 175 ∷ (n - 256) ∷ 0 ∷ [])
+attributeFront n = cond (isPlain n) (n ∷ []) (26 ∷ 0 ∷ octetsOf 4 vendor3gpp ++ (n - 256) ∷ 0 ∷ [])
 
 -- the buffer d with the lengths in the head of h octets that stands at a place, before a value of k octets
 unfoldable pub lengthsAt : (at h k : ℕ) (d : List ℕ) → List ℕ

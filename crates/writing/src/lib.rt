@@ -18,7 +18,7 @@ ghost use Rattle.item.specs.Stands.{raw, shaped, standsAs};
 ghost use Rattle.writing.specs.Attributes.{span, profileText, valueAs, attributeFront, lengthsAt, Digited, Laying, Attributed};
 ghost use Rattle.writing.specs.Answers.{frontOf, refusedAs, endedAs, itemsRefusal, Transcribed, judgementOf, sizeOf, HandedOver, Wrote};
 
-// 24: "the attribute area would exceed 4,076 octets".
+// "24: area to be written over 4,076 octets".
 const LONGEST: usize = 4076;
 
 // Room for one attribute wherever it begins: a head of 8 octets and a value of at most 255, as an item's count can announce.
