@@ -13,6 +13,7 @@ use Rattle.meaning.specs.Jobs.{Context}
 use Rattle.meaning.specs.Framing.{WellFramed}
 use Rattle.meaning.specs.Refusals.{none, areaRefusal}
 use Rattle.meaning.specs.Sheet.{versionIn, kindIn, flagsIn, areaIn, judged, Writable}
+use Rattle.meaning.specs.Breaches.{Among}
 use Rattle.meaning.specs.Listing.{listOf}
 use Rattle.meaning.specs.Answers.{given, Written, readAnswer, checkAnswer, writeAnswer, areaAnswer}
 use Rattle.meaning.proofs.Walked.{framed-exactly}
@@ -20,6 +21,7 @@ use Rattle.meaning.proofs.Sheets.{Clear, clear, clear-read, written-exactly, sh
 use Rattle.meaning.proofs.Answers.{one-answer, read-exactly, check-given, written-back}
 use Rattle.meaning.proofs.Rising.{one-list}
 use Rattle.meaning.proofs.Placed.{list-lists}
+use Rattle.meaning.proofs.Entries.{Tells, one-telling, area-breach-tells}
 use Rattle.desk.specs.declared.Answer as exported
 use Rattle.desk.specs.declared.Reading.{Reading}
 use Rattle.desk.specs.declared.Reading.the-variants as reading
@@ -167,3 +169,10 @@ pub list-of-breaches :
 list-of-breaches k a l lists room =
     let answer = check-given (k .comes) (k .area) (length (k .buffer)) l a lists room in
     gives (k .promised) (ap checkingOf answer) answer room
+
+-- Two different breaches have different entries: an entry in the list tells one place, one rule and one number.
+pub entry-tells-breach : (k : CheckCall) (l : List ℕ) → ListsBreaches k l → (e : ℕ) → Among e l → Tells e
+entry-tells-breach k l lists e m = area-breach-tells (k .comes) (k .area) e (k .octets) (lists .exact e .0 m)
+
+pub entry-tells-one : (e : ℕ) (t u : Tells e) → (t .place ≡ u .place) × (t .rule ≡ u .rule) × (t .number ≡ u .number)
+entry-tells-one = one-telling

@@ -1,6 +1,6 @@
 -- Two different breaches have different entries: an entry tells its place, rule and number, where the number can break a rule. The
 -- numbers that can are those that have a shape; a plain 26 cannot, whose entry would be that of 3GPP 0. Assumes nothing.
-use mathlib.Core.Path.{_≡_, refl}
+use mathlib.Core.Path.{_≡_, refl, sym, _∙_}
 use mathlib.Core.Logic.{_⊎_, inl, inr, ⊎-elim}
 use mathlib.Core.Bool.{Bool, true, false, cond, not, _&&_, _||_}
 use mathlib.Core.List.{List, [], _∷_}
@@ -161,6 +161,10 @@ pub record Tells (e : ℕ) : Type 0 where
   pub most : rule ≤ 7
   pub can : T (canBreak number)
   pub is : e ≡ entry place rule number
+
+-- and no other place, rule or number has it
+pub one-telling : (e : ℕ) (t u : Tells e) → (t .place ≡ u .place) × (t .rule ≡ u .rule) × (t .number ≡ u .number)
+one-telling e t u = one-breach _ _ _ _ _ _ (t .most) (u .most) (t .can) (u .can) (sym (t .is) ∙ u .is)
 
 module _ (c : Context) (to : ℕ) (l : List Attribute) (placed : Placed 0 l to) (e : ℕ) where
   tells : (place rule number : ℕ) → 1 ≤ rule → rule ≤ 7 → T (canBreak number) → e ≡ entry place rule number → Tells e
