@@ -16,7 +16,7 @@ use Rattle.area.specs.Answers.{stepOf, numberAt, carriedAs, carriedAt}
 use Rattle.area.specs.declared.Part.{Part}
 use Rattle.area.specs.declared.Step.{Step}
 use Rattle.area.specs.declared.Step.the-variants as step
-use Rattle.area.proofs.Steps.{Stands, step-attribute}
+use Rattle.area.proofs.Steps.{AttributeAt, step-attribute}
 
 -- ---- One law for each answer
 
@@ -118,7 +118,7 @@ module _ (l : List ℕ) (place : ℕ) (o : Octets l) where
   pub step-carried : (r : Step) → r ≡ stepOf place (foundAt l place) → (number : ℕ) (value : Part) (behind : ℕ) → r ≡ step.Attribute number value behind → record { number = number; value = value; next = behind } ≡ carriedAt l place
   step-carried r says number value behind q = go (foundAt l place) refl (sym q ∙ says)
     where
-      stands : Stands l place number value behind
+      stands : AttributeAt l place number value behind
       stands = step-attribute l place r says number value behind q
 
       go : (f : Found) → foundAt l place ≡ f → step.Attribute number value behind ≡ stepOf place f → record { number = number; value = value; next = behind } ≡ carriedAt l place

@@ -7,7 +7,7 @@ use lib.ListN.{length}
 use Rattle.meaning.specs.Framing.{Walk, walkAt, walk, attributes}
 use Rattle.meaning.specs.Refusals.{fault}
 use Rattle.area.specs.declared.Part.{Part}
-use Rattle.area.proofs.Steps.{Stands}
+use Rattle.area.proofs.Steps.{AttributeAt}
 
 -- So many attributes of the area l stand before a place: the fault, if any, and the other attributes are found from there on.
 pub record Passed (l : List ℕ) (count place : ℕ) : Type 0 where
@@ -23,7 +23,7 @@ passed-none l = record { inside = omega arith; few = omega arith; same-fault = r
 
 module _ (l : List ℕ) (count place : ℕ) (passed : Passed l count place) where
   -- one attribute more
-  pub passed-more : (number : ℕ) (value : Part) (behind : ℕ) → Stands l place number value behind → Passed l (count + 1) behind
+  pub passed-more : (number : ℕ) (value : Part) (behind : ℕ) → AttributeAt l place number value behind → Passed l (count + 1) behind
   unfolding fault attributes
   passed-more number value behind s =
       record {

@@ -21,7 +21,7 @@ abbrev pub attributeIn : (l : List ℕ) (place number : ℕ) → Part → Attrib
 attributeIn l place number value = record { place = place; number = number; value = take (value .len) (drop (value .start) l) }
 
 -- At a place of the area l stands an attribute with its number and its value, and the walk goes on at the place behind it.
-pub record Stands (l : List ℕ) (place number : ℕ) (value : Part) (behind : ℕ) : Type 0 where
+pub record AttributeAt (l : List ℕ) (place number : ℕ) (value : Part) (behind : ℕ) : Type 0 where
   pub walks : walkAt l place ≡ next (attributeIn l place number value) (walkAt l behind)
   pub onwards : place + 2 ≤ behind
   pub inside : behind ≤ length l
@@ -38,10 +38,10 @@ module _ (l : List ℕ) (place : ℕ) where
   -- The answer r of `step_at`, known by what it ensures and by the arm of a match.
   module _ (r : Step) (says : r ≡ stepOf place (foundAt l place)) where
     -- an attribute
-    pub step-attribute : (number : ℕ) (value : Part) (behind : ℕ) → r ≡ step.Attribute number value behind → Stands l place number value behind
+    pub step-attribute : (number : ℕ) (value : Part) (behind : ℕ) → r ≡ step.Attribute number value behind → AttributeAt l place number value behind
     step-attribute number value behind q = go (foundAt l place) refl (sym q ∙ says)
       where
-        go : (f : Found) → foundAt l place ≡ f → step.Attribute number value behind ≡ stepOf place f → Stands l place number value behind
+        go : (f : Found) → foundAt l place ≡ f → step.Attribute number value behind ≡ stepOf place f → AttributeAt l place number value behind
         go (attribute n h s) p e =
             let z = subst (Sized (length (drop place l))) p (sized-at l place) in
             let en : n ≡ number = cc in

@@ -20,7 +20,7 @@ use Rattle.meaning.proofs.Tests.{parts, is-true, passes}
 use Rattle.area.specs.declared.Refusal.{Refusal}
 use Rattle.area.specs.declared.Part.{Part}
 use Rattle.area.specs.Answers.{carriedAt}
-use Rattle.area.proofs.Steps.{Stands, attributeIn}
+use Rattle.area.proofs.Steps.{AttributeAt, attributeIn}
 use Rattle.checking.specs.declared.Tally.the-variants.{Whole, Broken}
 use Rattle.checking.specs.Lists.{LaysEntries, LaysOne, viewAt, Notes, AlongSays}
 use Rattle.checking.proofs.Laying.{put-not, laid-none, laid-then, laid-kept, chosen-none, chosen-then, chosen-append, chosen-few}
@@ -134,7 +134,7 @@ passing-none c l d seen none-seen =
 module _ (c : Context) (l d out : List ℕ) (seen : List Bool) (place written : ℕ) (k : Passing c l d out seen place written) where
   -- one attribute more
   pub passing-more : (n : ℕ) (p : Part) (behind : ℕ) → record { number = n; value = p; next = behind } ≡ carriedAt l place
-      → Stands l place n p behind → n < 512 → (again : Bool) (v held : List ℕ) (said : ℕ)
+      → AttributeAt l place n p behind → n < 512 → (again : Bool) (v held : List ℕ) (said : ℕ)
       → again ≡ onceOnly n && isIn n (k .numbers) → v ≡ take (behind - p .start) (drop (p .start) l)
       → LaysEntries (chosen (brokenBy c again (viewAt c place n v))) out written said held
       → Passing c l d held (set seen n true) behind said

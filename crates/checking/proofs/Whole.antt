@@ -24,7 +24,7 @@ use Rattle.checking.specs.declared.Tally.{Tally}
 use Rattle.checking.specs.declared.Tally.the-variants.{Whole, Broken}
 use Rattle.presence.specs.Rows.{rowOf}
 use Rattle.checking.specs.Table.{Known}
-use Rattle.checking.specs.Lists.{LaysEntries, endBy, Ready, Broke, Walked, AlongSays, Listed, PassSays}
+use Rattle.checking.specs.Lists.{LaysEntries, endBy, Ready, Broke, WalkedWhole, AlongSays, Listed, PassSays}
 use Rattle.checking.specs.Answers.{Checked}
 use Rattle.checking.proofs.Rows.{row-known}
 use Rattle.checking.proofs.Laying.{laid-over, chosen-both}
@@ -34,7 +34,7 @@ use Rattle.checking.proofs.Ends.{end-meant}
 
 -- What the attributes break and then the end are the whole list.
 pub pass-laid : (c : Context) (area codes : List ℕ) (seen : List Bool) → Ready c area codes → (d one held : List ℕ) (first said : ℕ)
-    → Walked c area d first one seen → LaysEntries (chosen (endBy c codes seen (length area))) one first said held
+    → WalkedWhole c area d first one seen → LaysEntries (chosen (endBy c codes seen (length area))) one first said held
     → PassSays c area d (Whole said) held
 unfolding PassSays listOf breaches
 pass-laid c area codes seen y d one held first said p q =
@@ -48,7 +48,7 @@ pass-laid c area codes seen y d one held first said p q =
 
 -- The answer of `along`, known by what it ensures and by the arm of a match.
 module _ (c : Context) (area d : List ℕ) (r : Tally) (held : List ℕ) (seen : List Bool) (says : AlongSays c area d r held seen) where
-  pub along-whole : (n : ℕ) → r ≡ Whole n → Walked c area d n held seen
+  pub along-whole : (n : ℕ) → r ≡ Whole n → WalkedWhole c area d n held seen
   unfolding AlongSays
   along-whole n q = subst (λ (t : Tally). AlongSays c area d t held seen) q says
 

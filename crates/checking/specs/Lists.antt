@@ -97,7 +97,7 @@ pub record Broke (area d : List ℕ) (said : Refusal) (held : List ℕ) : Type 0
   pub kept : length held ≡ length d
 
 -- what the pass over a well framed area's attributes says, what the buffer holds then, and that the numbers are noted
-pub record Walked (c : Context) (area d : List ℕ) (said : ℕ) (held : List ℕ) (seen : List Bool) : Type 0 where
+pub record WalkedWhole (c : Context) (area d : List ℕ) (said : ℕ) (held : List ℕ) (seen : List Bool) : Type 0 where
   pub sound : fault (walk area) ≡ none
   pub lays : LaysEntries (chosen (along c [] (viewsOf c (walk area)))) d 0 said held
   pub few : said ≤ 2 * length area
@@ -105,7 +105,7 @@ pub record Walked (c : Context) (area d : List ℕ) (said : ℕ) (held : List �
 
 -- the same of any area
 unfoldable pub AlongSays : Context → (area d : List ℕ) → Tally → (held : List ℕ) (seen : List Bool) → Type 0
-AlongSays c area d (Whole n) held seen = Walked c area d n held seen
+AlongSays c area d (Whole n) held seen = WalkedWhole c area d n held seen
 AlongSays c area d (Broken r) held seen = Broke area d r held
 
 -- what the pass over a whole area that is well framed says, and what the buffer holds then

@@ -30,7 +30,7 @@ says (refused k) = k ∷ []
 says nothing = []
 
 -- what stands there of this type, with this length octet and these octets after it
-abbrev stands : (type length : ℕ) → List ℕ → List ℕ
+abbrev stands : (type size : ℕ) → List ℕ → List ℕ
 stands t n r = says (found (t ∷ n ∷ r))
 
 -- 5 and 6: every length octet before 100 octets, and before 253

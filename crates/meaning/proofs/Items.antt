@@ -58,23 +58,23 @@ item-entered ver n v rest t =
     rw (four, whole, front ver n v rest, number-in ver n v, stands-for ver n v) (accepts ver n v t)
 
 -- What is accepted at the front of some octets of a sheet.
-pub record Accepted (ver : Version) (l : List ℕ) (n : ℕ) (v : List ℕ) (size : ℕ) : Type 0 where
+pub record AcceptedItem (ver : Version) (l : List ℕ) (n : ℕ) (v : List ℕ) (size : ℕ) : Type 0 where
   pub carried : T (carries n v)
   pub same-octets : item ver n v ≡ take size l
   pub inside : size ≤ length l
   pub low : n < 512
 
-record Judged (ver : Version) (n : ℕ) (v it : List ℕ) (n′ : ℕ) (v′ : List ℕ) (size : ℕ) : Type 0 where
+record JudgedAs (ver : Version) (n : ℕ) (v it : List ℕ) (n′ : ℕ) (v′ : List ℕ) (size : ℕ) : Type 0 where
   number-is : n ≡ n′
   size-is : length it ≡ size
   carried : T (carries n′ v′)
   same-octets : item ver n′ v′ ≡ it
 
-judged-holds : (ver : Version) (n : ℕ) (v it : List ℕ) (n′ : ℕ) (v′ : List ℕ) (size : ℕ) → judgedItem ver n v it ≡ holds n′ v′ size → Judged ver n v it n′ v′ size
+judged-holds : (ver : Version) (n : ℕ) (v it : List ℕ) (n′ : ℕ) (v′ : List ℕ) (size : ℕ) → judgedItem ver n v it ≡ holds n′ v′ size → JudgedAs ver n v it n′ v′ size
 unfolding judgedItem
 judged-holds ver n v it n′ v′ size e = go (carries n v && same (item ver n v) it) refl e
   where
-    go : (b : Bool) → carries n v && same (item ver n v) it ≡ b → cond b (holds n v (length it)) (refused 23) ≡ holds n′ v′ size → Judged ver n v it n′ v′ size
+    go : (b : Bool) → carries n v && same (item ver n v) it ≡ b → cond b (holds n v (length it)) (refused 23) ≡ holds n′ v′ size → JudgedAs ver n v it n′ v′ size
     go true q e =
         let en : n ≡ n′ = cc in
         let ev : v ≡ v′ = cc in
@@ -96,7 +96,7 @@ number-low t s f h g = go (eqb t 26 && not (eqb f 0))
     go false = omega arith
 
 -- What is accepted at the front is the item of what it holds.
-pub entered-holds : (ver : Version) (l : List ℕ) (n : ℕ) (v : List ℕ) (size : ℕ) → Octets l → entered ver l ≡ holds n v size → Accepted ver l n v size
+pub entered-holds : (ver : Version) (l : List ℕ) (n : ℕ) (v : List ℕ) (size : ℕ) → Octets l → entered ver l ≡ holds n v size → AcceptedItem ver l n v size
 unfolding entered wholeItem
 entered-holds ver l n v size o e = go (ltb (length l) 4) (ltb (length l) (4 + storedLength ver (getD l 2 0) (getD l 3 0))) refl e
   where
@@ -106,7 +106,7 @@ entered-holds ver l n v size o e = go (ltb (length l) 4) (ltb (length l) (4 + st
     named : ℕ
     named = numberIn (getD l 0 0) (getD l 1 0) (getD l 2 0)
 
-    whole : 4 + storedLength ver (getD l 2 0) (getD l 3 0) ≤ length l → judgedItem ver named (valueIn ver named (getD l 2 0) (getD l 3 0) (drop 4 (take long l))) (take long l) ≡ holds n v size → Accepted ver l n v size
+    whole : 4 + storedLength ver (getD l 2 0) (getD l 3 0) ≤ length l → judgedItem ver named (valueIn ver named (getD l 2 0) (getD l 3 0) (drop 4 (take long l))) (take long l) ≡ holds n v size → AcceptedItem ver l n v size
     whole h e =
         let j = judged-holds ver named (valueIn ver named (getD l 2 0) (getD l 3 0) (drop 4 (take long l))) (take long l) n v size e in
         let s : long ≡ size = sym (length-take-le long l h) ∙ j .size-is in
@@ -117,7 +117,7 @@ entered-holds ver l n v size o e = go (ltb (length l) 4) (ltb (length l) (4 + st
           low = omega (arith, j .number-is, number-low (getD l 0 0) (getD l 1 0) (getD l 2 0) (octet-at l 0 o) (octet-at l 1 o));
         }
 
-    go : (a b : Bool) → ltb (length l) (4 + storedLength ver (getD l 2 0) (getD l 3 0)) ≡ b → cond a (refused 22) (cond b (refused 22) (wholeItem ver l)) ≡ holds n v size → Accepted ver l n v size
+    go : (a b : Bool) → ltb (length l) (4 + storedLength ver (getD l 2 0) (getD l 3 0)) ≡ b → cond a (refused 22) (cond b (refused 22) (wholeItem ver l)) ≡ holds n v size → AcceptedItem ver l n v size
     go true b q e = absurd (let z : _≡_ {A = ℕ} 0 1 = cc in omega arith)
     go false true q e = absurd (let z : _≡_ {A = ℕ} 0 1 = cc in omega arith)
     go false false q e = whole (ltb-false _ _ q) e

@@ -28,12 +28,12 @@ abbrev MetAt : (value : ℕ → List ℕ) (lengths numbers : List ℕ) → Type 
 MetAt value lengths l = map (λ n. those (λ k. met n (value k)) 254) l ≡ map (λ n. lengths) l
 
 -- so many octets, whatever they are
-abbrev any : (octet : ℕ → ℕ) (length : ℕ) → List ℕ
+abbrev any : (octet : ℕ → ℕ) (size : ℕ) → List ℕ
 any o zero = []
 any o (suc k) = o k ∷ any o k
 
 -- so many octets of a text that goes on with digits
-abbrev text : List ℕ → (length : ℕ) → List ℕ
+abbrev text : List ℕ → (size : ℕ) → List ℕ
 text start k = take k start ++ replicate (k - length start) 0x31
 
 -- numbers of one shape: what is said of the first below holds of them all

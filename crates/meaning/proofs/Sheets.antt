@@ -176,16 +176,16 @@ split sheet o m =
     sym (take-append-drop 5 sheet) ∙ ap₂ _++_ (same-one (take 5 sheet) front (t .1)) behind
 
 -- A sheet of which nothing of 20 to 24 applies.
-pub record Passed (sheet : List ℕ) : Type 0 where
+pub record Unrefused (sheet : List ℕ) : Type 0 where
   pub marked-is : marked sheet ≡ true
   pub kind-ok : isKind (kindIn sheet) ≡ true
   pub flags-ok : areFlags (flagsIn sheet) ≡ true
   pub sound : fault (itemsIn sheet) ≡ none
   pub short : length (areaIn sheet) ≤ 4076
 
-pub passed : (sheet : List ℕ) → judged sheet ≡ none → Passed sheet
+pub unrefused : (sheet : List ℕ) → judged sheet ≡ none → Unrefused sheet
 unfolding judged sheetRefusal
-passed sheet e =
+unrefused sheet e =
     let kind : Bool = isKind (kindIn sheet) in
     let flags : Bool = areFlags (flagsIn sheet) in
     let len : ℕ = length (areaIn sheet) in
@@ -209,7 +209,7 @@ pub record Accepted (sheet : List ℕ) : Type 0 where
 pub accepted-sheet : (sheet : List ℕ) → Octets sheet → judged sheet ≡ none → Accepted sheet
 unfolding sheetAs sheetWith areaIn itemsIn walk walkAt
 accepted-sheet sheet o e =
-    let p = passed sheet e in
+    let p = unrefused sheet e in
     let ver : Version = versionIn sheet in
     let j = judged-items ver (numberOf (take 2 (drop 7 sheet))) 9 (drop 9 sheet) (octets-drop 9 sheet o) (p .sound) in
     let l : List Attribute = attributes (itemsIn sheet) in

@@ -34,8 +34,8 @@ abbrev pub tooShort : (number needed room : ℕ) → Refusal
 tooShort n needed room = when (ltb room needed) n needed
 
 -- 3, 24: "area over 4,076 octets", second number "its length"
-abbrev pub tooLong : (number length : ℕ) → Refusal
-tooLong n len = when (ltb 4076 len) n len
+abbrev pub tooLong : (number size : ℕ) → Refusal
+tooLong n size = when (ltb 4076 size) n size
 
 -- "3, then the first attribute from the left that fails, tested 4 to 8": what the framing alone refuses
 unfoldable pub framingRefusal : List ℕ → Refusal

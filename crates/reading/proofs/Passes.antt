@@ -19,7 +19,7 @@ use Rattle.octets.proofs.Overs.{laid-keeps}
 use Rattle.octets.proofs.Begun.{begun-none, begun-laid, begun-as, begun-on, begun-first}
 use Rattle.area.specs.declared.Refusal.{Refusal}
 use Rattle.area.specs.declared.Part.{Part}
-use Rattle.area.proofs.Steps.{Stands}
+use Rattle.area.proofs.Steps.{AttributeAt}
 use Rattle.area.proofs.Passed as framing
 use Rattle.shape.specs.declared.Item.{Item}
 use Rattle.shape.specs.declared.Value.the-variants.{Number, Address, Digits, Plain}
@@ -76,7 +76,7 @@ plain-part f v s p q e = go (eqb f 2) (eqb f 3) (eqb f 4) (eqb f 7) e
 abbrev valueIn : List ℕ → Part → List ℕ
 valueIn l p = partOf l (p .start) (p .len)
 
-module _ (l : List ℕ) (place n : ℕ) (p : Part) (behind : ℕ) (g : Stands l place n p behind) (o : Octets l) where
+module _ (l : List ℕ) (place n : ℕ) (p : Part) (behind : ℕ) (g : AttributeAt l place n p behind) (o : Octets l) where
   value-long : length (valueIn l p) ≡ p .len
   unfolding partOf
   value-long = length-take-le (p .len) (drop (p .start) l) (omega (arith, length-drop (p .start) l, g .ends, g .inside))

@@ -15,7 +15,7 @@ use Rattle.meaning.specs.Sheet.{kindIn, flagsIn, areaIn, marked, judged}
 use Rattle.meaning.specs.Answers as meant
 use Rattle.meaning.specs.Answers.{unless, after, writeAnswer, areaAnswer}
 use Rattle.meaning.proofs.Tests.{parts, passes}
-use Rattle.meaning.proofs.Sheets.{passed}
+use Rattle.meaning.proofs.Sheets.{unrefused}
 use Rattle.octets.specs.Parts.{laidAt}
 use Rattle.octets.specs.Handing.{handing, Handed}
 use Rattle.octets.proofs.Overs.{laid-first}
@@ -97,7 +97,7 @@ unfolding sizeOf
 size-short l buf j t = go (judged l) refl (t .says)
   where
     go : (r : book.Refusal) → judged l ≡ r → j ≡ judgementBy r l → sizeOf j ≤ 4076
-    go none e q = rw q (passed l e .short)
+    go none e q = rw q (unrefused l e .short)
     go (refusal n s) e q = rw q (omega arith)
 
 -- ---- What is handed over

@@ -7,7 +7,7 @@ use mathlib.Core.Logic.{⊎-elim}
 use mathlib.Core.Path.{_≡_, refl, _∙_}
 use native.Mathlib.Omega.{arith}
 use Rattle.octets.proofs.Parts.{slice-octets}
-use Rattle.area.proofs.Steps.{Stands, step-attribute, step-refused, step-ended}
+use Rattle.area.proofs.Steps.{AttributeAt, step-attribute, step-refused, step-ended}
 use Rattle.area.proofs.Carrying.{step-carried}
 use Rattle.meaning.specs.Octets.{Octets, isIn}
 use Rattle.meaning.specs.Jobs.{comes}
@@ -43,7 +43,7 @@ octets k =
 stands : (k : tie.After-known-told Inv-search μ-search Inv-loop μ-loop) →
     (let f = k .before .number .given .0 in
     let o = k .before .before .before .before in
-    Stands (o .before .before .before .before .args .area .now) (o .loop .place) (f .0) (f .1 .0) (f .1 .1 .0))
+    AttributeAt (o .before .before .before .before .args .area .now) (o .loop .place) (f .0) (f .1 .0) (f .1 .1 .0))
 stands k = step-attribute _ _ _ (k .before .before .before .step-at .ensures) _ _ _ (k .before .number .given .1)
 
 -- its number is carried

@@ -5,7 +5,7 @@ use borrow.Author.Needs.{needs}
 use lib.ListN.{length}
 use native.Mathlib.Omega.{arith}
 use Rattle.octets.proofs.Parts.{slice-octets}
-use Rattle.area.proofs.Steps.{Stands, step-attribute, step-refused, step-ended}
+use Rattle.area.proofs.Steps.{AttributeAt, step-attribute, step-refused, step-ended}
 use Rattle.meaning.specs.Octets.{Octets}
 use Rattle.reading.proofs.Passes.{Passing, passing-none, passing-sum, passing-more, passing-done, passing-broken, number-low, names-fit, item-count, item-within, item-fits}
 use Rattle.reading.proofs.put_items.Statement.{statement}
@@ -24,7 +24,7 @@ octets k = slice-octets (k .before .before .before .before .before .before .befo
 -- what stands at the place, in the arm of an attribute
 stands : (k : tie.After-known-told Inv-loop μ-loop) →
     (let f = k .before .number .given .0 in
-    Stands (k .before .before .before .before .before .before .before .args .area .now) (k .before .before .before .before .loop .place) (f .0) (f .1 .0) (f .1 .1 .0))
+    AttributeAt (k .before .before .before .before .before .before .before .args .area .now) (k .before .before .before .before .loop .place) (f .0) (f .1 .0) (f .1 .1 .0))
 stands k = step-attribute _ _ _ (k .before .before .before .step-at .ensures) _ _ _ (k .before .number .given .1)
 
 loop-holds : tie.Need-loop-holds Inv-loop μ-loop
