@@ -4,16 +4,13 @@ use mathlib.Core.Bool.{Bool, true, false}
 use mathlib.Core.List.{List, [], _++_, append-nil, append-assoc}
 use Prim.Native.Nat.{ℕ, zero, suc, _^_, _+_, _*_, _-_, _<_, _≤_, min}
 use native.Mathlib.Omega.{arith}
-use borrow.Author.Tests.{ltb-true, ltb-false}
-use lib.Dec.{ltb}
 use lib.ListN.{length, take, drop, length-append, length-take}
 use Rattle.meaning.specs.Octets.{Octets, numberOf}
 use Rattle.meaning.proofs.Numbers.{number-fits}
 use Rattle.meaning.proofs.Octets.{octets-take, octets-drop}
 use Rattle.meaning.specs.Framing.{Walk, end, next, attributes, attributeOctets, areaOf}
-use Rattle.meaning.specs.Refusals as book
-use Rattle.meaning.specs.Refusals.{none, refusal, when, first, fault, tooLong}
-use Rattle.meaning.specs.Sheet.{itemsIn, kindIn, flagsIn, areaIn, refused}
+use Rattle.meaning.specs.Refusals.{none, refusal, fault}
+use Rattle.meaning.specs.Sheet.{itemsIn, areaIn, refused}
 use Rattle.area.specs.declared.Refusal.{Refusal}
 use Rattle.octets.specs.Parts.{partOf}
 use Rattle.item.specs.declared.Headed.{Headed}
@@ -21,9 +18,9 @@ use Rattle.item.specs.declared.Headed.the-variants.{Item, Refused}
 use Rattle.item.specs.Stands.{standsAs}
 use Rattle.item.specs.Answers.{enteredAt, headedAt}
 use Rattle.item.proofs.Entering.{a-refusal}
-use Rattle.writing.specs.declared.Judgement.the-variants as judgement
+use Rattle.writing.specs.declared.Pass.the-variants.{Items, Broken}
 use Rattle.writing.specs.Attributes.{span, valueAs, Attributed}
-use Rattle.writing.specs.Answers.{refusedAs, judgementFrom, itemsRefusal, endedAs, sizeOf, Transcribed}
+use Rattle.writing.specs.Answers.{brokenAs, Transcribed}
 use Rattle.writing.proofs.Putting.{head-two, attribute-long}
 use Rattle.writing.proofs.Entries.{Entry, stored-here, no-entry, entry-here}
 use Rattle.writing.proofs.Walking.{itemsAt, items-start, items-enter, items-refuse, items-end, items-remain}
@@ -67,23 +64,22 @@ transcribing-none l out left o e =
 
 -- a refusal of the first item that is left
 broken-here : (l out : List ℕ) (left place written k : ℕ) → Transcribing l out left place written → 0 < left → enteredAt l place ≡ refused k
-    → itemsRefusal l ≡ refusal k place
-unfolding itemsRefusal fault
-broken-here l out left place written k j some e =
-    let f : fault (itemsIn l) ≡ refusal k place = j .faults ∙ ap fault (items-refuse l left place k some e) in
-    rw f
+    → fault (itemsIn l) ≡ refusal k place
+unfolding fault
+broken-here l out left place written k j some e = j .faults ∙ ap fault (items-refuse l left place k some e)
 
 -- where a refusal applies, nothing is said of the buffer
-refused-by : (by : book.Refusal) (l out : List ℕ) (n s : ℕ) → by ≡ refusal n s → Transcribed by l (refusedAs n s) out
-refused-by by l out n s e = record { says = rw e; holds = λ q. absurd (let z : _≡_ {A = ℕ} 0 1 = cc in omega arith) }
+refused-by : (l out : List ℕ) (n s : ℕ) → fault (itemsIn l) ≡ refusal n s → Transcribed l (brokenAs n s) out
+refused-by l out n s e = record { says = rw e; holds = λ q. absurd (let z : _≡_ {A = ℕ} 0 1 = cc in omega arith) }
 
 module _ (l d : List ℕ) (left place written : ℕ) (j : Transcribing l d left place written) (some : 0 < left) (o : Octets l) (r : Headed)
     (says : r ≡ headedAt l place) where
   -- a head that is refused
-  pub transcribing-refused : (out : List ℕ) (x : Refusal) → r ≡ Refused x → Transcribed (itemsRefusal l) l (judgement.Refused x) out
+  pub transcribing-refused : (out : List ℕ) (x : Refusal) → r ≡ Refused x → Transcribed l (Broken x) out
   transcribing-refused out x q =
       let a = a-refusal l place o r says x q in
-      refused-by (itemsRefusal l) l out (x .number) (x .second) (broken-here l d left place written (x .number) j some (a .0) ∙ ap (refusal (x .number)) (sym (a .1)))
+      refused-by l out (x .number) (x .second)
+      (broken-here l d left place written (x .number) j some (a .0) ∙ ap (refusal (x .number)) (sym (a .1)))
 
   -- an item, and what the writer of its attribute answered
   module _ (n f c behind : ℕ) (q : r ≡ Item n f c behind) (at put : ℕ) (out : List ℕ)
@@ -96,8 +92,10 @@ module _ (l d : List ℕ) (left place written : ℕ) (j : Transcribing l d left 
     abbrev attribute : List ℕ
     attribute = attributeOctets n (valueAs n f c st)
 
-    pub transcribing-23 : put ≡ 0 → Transcribed (itemsRefusal l) l (refusedAs 23 place) out
-    transcribing-23 e = refused-by (itemsRefusal l) l out 23 place (broken-here l d left place written 23 j some (no-entry l place o r says n f c behind q (go (standsAs n f c st) refl)))
+    pub transcribing-23 : put ≡ 0 → Transcribed l (brokenAs 23 place) out
+    transcribing-23 e =
+        refused-by l out 23 place
+        (broken-here l d left place written 23 j some (no-entry l place o r says n f c behind q (go (standsAs n f c st) refl)))
       where
         go : (b : Bool) → standsAs n f c st ≡ b → b ≡ false
         go false t = refl
@@ -144,38 +142,20 @@ module _ (l d : List ℕ) (left place written : ℕ) (j : Transcribing l d left 
                 ∙ ap (λ (g : List ℕ). g ++ attribute) (ap (λ (k : ℕ). take k d) here ∙ j .held (omega (arith, b .kept)));
           }
 
--- no item is left: 22, 24, or the area
+-- no item is left: 22, or the octets of the attributes
 module _ (l out : List ℕ) (left place written : ℕ) (j : Transcribing l out left place written) (none-left : left ≡ 0) where
-  remains : ltb place (length l) ≡ true → itemsRefusal l ≡ refusal 22 place
-  unfolding itemsRefusal fault
-  remains e =
-      let f : fault (itemsIn l) ≡ refusal 22 place = j .faults ∙ ap fault (items-remain l left place none-left (ltb-true place (length l) e)) in
-      rw f
+  pub transcribing-22 : place < length l → Transcribed l (brokenAs 22 place) out
+  unfolding fault
+  transcribing-22 h = refused-by l out 22 place (j .faults ∙ ap fault (items-remain l left place none-left h))
 
-  module _ (e : ltb place (length l) ≡ false) where
-    done : itemsAt l left place ≡ end
-    done = items-end l left place none-left (ltb-false place (length l) e)
-
-    all : areaIn l ≡ j .gone
-    unfolding attributes areaOf
-    all = j .whole ∙ ap (λ (w : Walk). j .gone ++ areaOf (attributes w)) done ∙ append-nil (j .gone)
-
-    few-enough : itemsRefusal l ≡ tooLong 24 written
-    unfolding itemsRefusal fault
-    few-enough =
-        let f : fault (itemsIn l) ≡ none = j .faults ∙ ap fault done in
-        let n : length (areaIn l) ≡ written = ap length all ∙ j .long in
-        rw (f, n)
-
-  pub transcribing-ended : Transcribed (itemsRefusal l) l (endedAs l place written) out
-  unfolding endedAs sizeOf
-  transcribing-ended = go (ltb place (length l)) refl (ltb 4076 written) refl
-    where
-      go : (b : Bool) → ltb place (length l) ≡ b → (c : Bool) → ltb 4076 written ≡ c
-          → Transcribed (itemsRefusal l) l (judgementFrom (first (when b 22 place) (when c 24 written)) written (kindIn l) (flagsIn l)) out
-      go true e c t = refused-by (itemsRefusal l) l out 22 place (remains e)
-      go false e true t = refused-by (itemsRefusal l) l out 24 written (few-enough e ∙ rw t)
-      go false e false t =
-          let n : written ≡ length (areaIn l) = sym (ap length (all e) ∙ j .long) in
-          let is : itemsRefusal l ≡ none = few-enough e ∙ rw t in
-          record { says = rw (is, n); holds = λ q room. j .held room ∙ sym (all e) }
+  pub transcribing-all : length l ≤ place → Transcribed l (Items written) out
+  unfolding fault attributes areaOf
+  transcribing-all h =
+      let done : itemsAt l left place ≡ end = items-end l left place none-left h in
+      let all : areaIn l ≡ j .gone = j .whole ∙ ap (λ (w : Walk). j .gone ++ areaOf (attributes w)) done ∙ append-nil (j .gone) in
+      let n : length (areaIn l) ≡ written = ap length all ∙ j .long in
+      let sound : fault (itemsIn l) ≡ none = j .faults ∙ ap fault done in
+      record {
+        says = rw (sound, n);
+        holds = λ q room. ap (λ (k : ℕ). take k out) n ∙ j .held (omega (arith, n)) ∙ sym all;
+      }

@@ -1,5 +1,5 @@
 -- What writing answers: each refusal exactly when its line is the first that applies, or the area. Assumes nothing.
-use mathlib.Core.Path.{_≡_, refl, sym, ap, subst, _∙_}
+use mathlib.Core.Path.{_≡_, refl, sym, _∙_}
 use mathlib.Core.Bool.{Bool, true, false, not, _&&_}
 use mathlib.Core.List.{List}
 use Prim.Native.Nat.{ℕ, _+_, _≤_, _<_}
@@ -7,11 +7,11 @@ use native.Mathlib.Omega.{arith}
 use lib.Dec.{leb, leb→le}
 use lib.ListN.{length, take}
 use lib.Seq.{length-take-le}
-use Rattle.meaning.specs.Octets.{same, octetsOf}
+use Rattle.meaning.specs.Octets.{octetsOf}
 use Rattle.meaning.specs.Jobs.{isKind, areFlags}
 use Rattle.meaning.specs.Refusals as book
-use Rattle.meaning.specs.Refusals.{none, refusal, tooShort, sheetRefusal}
-use Rattle.meaning.specs.Sheet.{kindIn, flagsIn, areaIn, marked, judged}
+use Rattle.meaning.specs.Refusals.{none, refusal, fault, tooShort, sheetRefusal}
+use Rattle.meaning.specs.Sheet.{itemsIn, kindIn, flagsIn, areaIn, marked, judged}
 use Rattle.meaning.specs.Answers as meant
 use Rattle.meaning.specs.Answers.{unless, after, writeAnswer, areaAnswer}
 use Rattle.meaning.proofs.Tests.{parts, passes}
@@ -25,10 +25,12 @@ use Rattle.writing.specs.declared.Front.{Front}
 use Rattle.writing.specs.declared.Front.the-variants as front
 use Rattle.writing.specs.declared.Judgement.{Judgement}
 use Rattle.writing.specs.declared.Judgement.the-variants as judgement
+use Rattle.writing.specs.declared.Pass.{Pass}
 use Rattle.writing.specs.declared.Writing.{Writing}
 use Rattle.writing.specs.declared.Writing.the-variants.{Area, Refused}
 use Rattle.writing.specs.Attributes.{span}
-use Rattle.writing.specs.Answers.{frontRefusal, frontFrom, frontOf, judgementOf, judgementBy, itemsRefusal, sizeOf, Transcribed, areaSaid, HandedOver, writingOf, Wrote}
+use Rattle.writing.specs.Answers.{frontRefusal, frontFrom, frontOf, passFrom, Transcribed, endedAs}
+use Rattle.writing.specs.Answers.{judgementOf, judgementBy, sizeOf, areaSaid, HandedOver, writingOf, Wrote}
 
 -- a marked sheet has its nine octets
 pub marked-nine : (l : List ℕ) → marked l ≡ true → 9 ≤ length l
@@ -80,11 +82,13 @@ module _ (l : List ℕ) where
       pub front-nine : 9 ≤ length l
       front-nine = marked-nine l (passed-front .0)
 
-      pub judged-on : (j : Judgement) (buf : List ℕ) → Transcribed (itemsRefusal l) l j buf → Transcribed (judged l) l j buf
-      unfolding judged sheetRefusal itemsRefusal
-      judged-on j buf t =
-          let same : itemsRefusal l ≡ judged l = rw (passed-front .0, passed-front .1) in
-          subst (λ (by : book.Refusal). Transcribed by l j buf) same t
+      pub judged-on : (p : Pass) (buf : List ℕ) → Transcribed l p buf → (j : Judgement) → j ≡ endedAs l p → j ≡ judgementOf l
+      unfolding judgementOf judged sheetRefusal endedAs
+      judged-on p buf t j e = go (fault (itemsIn l)) refl (t .says)
+        where
+          go : (r : book.Refusal) → fault (itemsIn l) ≡ r → p ≡ passFrom r (length (areaIn l)) → j ≡ judgementOf l
+          go none f q = e ∙ rw (q, passed-front .0, passed-front .1, f)
+          go (refusal n s) f q = e ∙ rw (q, passed-front .0, passed-front .1, f)
 
 -- the judgement without a buffer
 pub judged-refused : (l : List ℕ) (x : Refusal) → judged l ≡ refusal (x .number) (x .second) → judgement.Refused x ≡ judgementOf l
@@ -92,13 +96,13 @@ unfolding judgementOf
 judged-refused l x e = rw e
 
 -- a written area has at most 4,076 octets
-pub size-short : (l buf : List ℕ) (j : Judgement) → Transcribed (judged l) l j buf → sizeOf j ≤ 4076
-unfolding sizeOf
-size-short l buf j t = go (judged l) refl (t .says)
+pub size-short : (l : List ℕ) (j : Judgement) → j ≡ judgementOf l → sizeOf j ≤ 4076
+unfolding sizeOf judgementOf
+size-short l j q = rw q (go (judged l) refl)
   where
-    go : (r : book.Refusal) → judged l ≡ r → j ≡ judgementBy r l → sizeOf j ≤ 4076
-    go none e q = rw q (unrefused l e .short)
-    go (refusal n s) e q = rw q (omega arith)
+    go : (r : book.Refusal) → judged l ≡ r → sizeOf (judgementBy r l) ≤ 4076
+    go none e = unrefused l e .short
+    go (refusal n s) e = omega arith
 
 -- ---- What is handed over
 
@@ -146,14 +150,14 @@ unfolding writeAnswer areaAnswer after
 refused-wrote l d x e = record { says = rw e; holds = rw e }
 
 -- What is handed over of a judged sheet, by a buffer with room behind its area, is what writing answers.
-pub written : (l made d : List ℕ) (j : Judgement) (said : Writing) (held : List ℕ) → Transcribed (judged l) l j made
-    → sizeOf j + span ≤ length made → HandedOver j made d said held → Wrote l d said held
-unfolding writeAnswer HandedOver handing sizeOf areaAnswer after
-written l made d j said held t room h = go (judged l) refl (t .says)
+pub written : (l made d : List ℕ) (p : Pass) → Transcribed l p made → (j : Judgement) → j ≡ judgementOf l
+    → sizeOf j + span ≤ length made → (said : Writing) (held : List ℕ) → HandedOver j made d said held → Wrote l d said held
+unfolding judgementOf writeAnswer HandedOver handing sizeOf areaAnswer after
+written l made d p t j is room said held h = go (judged l) refl is
   where
     go : (r : book.Refusal) → judged l ≡ r → j ≡ judgementBy r l → Wrote l d said held
     go none e q =
-        let all : take (length (areaIn l)) made ≡ areaIn l = ap (λ (i : Judgement). take (sizeOf i) made) (sym q) ∙ t .holds e room in
+        let all : take (length (areaIn l)) made ≡ areaIn l = t .holds (passed l e .sound) (rw q at room) in
         let p : Handed (areaSaid (kindIn l) (flagsIn l)) 25 (areaIn l) d said held = rw all at (rw q at h) in
         rw e (answered (tooShort 25 (length (areaIn l)) (length d)) (record { kind = kindIn l; flags = flagsIn l; area = areaIn l }) d said held p)
     go (refusal n s) e q = rw e (rw q at h)

@@ -3,7 +3,6 @@ use Prim.Native.Nat.{ℕ, _+_, _≤_}
 use mathlib.Core.Path.{_≡_}
 use mathlib.Core.List.{List}
 use mathlib.Core.Bool.{not, _&&_}
-use lib.Dec.{ltb}
 use lib.ListN.{length, take}
 use Rattle.meaning.specs.Jobs.{isKind, areFlags}
 use Rattle.meaning.specs.Refusals as book
@@ -15,19 +14,17 @@ use Rattle.writing.specs.declared.Front.{Front}
 use Rattle.writing.specs.declared.Front.the-variants as front
 use Rattle.writing.specs.declared.Judgement.{Judgement}
 use Rattle.writing.specs.declared.Judgement.the-variants as judgement
+use Rattle.writing.specs.declared.Pass.{Pass}
+use Rattle.writing.specs.declared.Pass.the-variants as pass
 use Rattle.writing.specs.declared.Writing.{Writing}
 use Rattle.writing.specs.declared.Writing.the-variants.{Area, Refused}
 
 -- ---- The judgement of a sheet
 
--- a refusal by its number and second number
-abbrev pub refusedAs : (number second : ℕ) → Judgement
-refusedAs k s = judgement.Refused (record { number = k; second = s })
-
 -- the refusal; or where there is none, that the sheet is written, with the octets of its area, its kind and its flags
 abbrev pub judgementFrom : book.Refusal → (size kind flags : ℕ) → Judgement
 judgementFrom book.none n k f = judgement.Writable n k f
-judgementFrom (book.refusal x s) n k f = refusedAs x s
+judgementFrom (book.refusal x s) n k f = judgement.Refused (record { number = x; second = s })
 
 -- the same of a sheet
 abbrev pub judgementBy : book.Refusal → (sheet : List ℕ) → Judgement
@@ -50,25 +47,31 @@ frontFrom (book.refusal n s) = front.Refused (record { number = n; second = s })
 unfoldable pub frontOf : (sheet : List ℕ) → Front
 frontOf sheet = frontFrom (frontRefusal sheet)
 
--- the first of 22 to 24 that applies to the items of a sheet
-unfoldable pub itemsRefusal : (sheet : List ℕ) → book.Refusal
-itemsRefusal sheet = book.first (book.fault (itemsIn sheet)) (book.tooLong 24 (length (areaIn sheet)))
-
--- what is said where no item is left, at a place of a sheet, and the items give so many octets
-unfoldable pub endedAs : (sheet : List ℕ) (place size : ℕ) → Judgement
-endedAs sheet place n =
-    judgementFrom (book.first (book.when (ltb place (length sheet)) 22 place) (book.tooLong 24 n)) n (kindIn sheet) (flagsIn sheet)
-
 -- the octets of the area that a judgement tells of
 unfoldable pub sizeOf : Judgement → ℕ
 sizeOf (judgement.Writable n k f) = n
 sizeOf (judgement.Refused r) = 0
 
--- what a pass over a sheet says by the first refusal that applies, and what the buffer in which its area is laid begins with then, where it
--- has room behind the area for one attribute more with its head
-pub record Transcribed (by : book.Refusal) (sheet : List ℕ) (said : Judgement) (buf : List ℕ) : Type 0 where
-  pub says : said ≡ judgementBy by sheet
-  pub holds : by ≡ book.none → sizeOf said + span ≤ length buf → take (sizeOf said) buf ≡ areaIn sheet
+-- 22 or 23, at a place of a sheet
+abbrev pub brokenAs : (number place : ℕ) → Pass
+brokenAs k p = pass.Broken (record { number = k; second = p })
+
+-- the refusal; or where there is none, the octets that the items give
+abbrev pub passFrom : book.Refusal → (size : ℕ) → Pass
+passFrom book.none n = pass.Items n
+passFrom (book.refusal k p) n = brokenAs k p
+
+-- what the items of a sheet say, and what the buffer in which their attributes are laid begins with where all stand and it has room behind
+-- them for one attribute more with its head
+pub record Transcribed (sheet : List ℕ) (said : Pass) (buf : List ℕ) : Type 0 where
+  pub says : said ≡ passFrom (book.fault (itemsIn sheet)) (length (areaIn sheet))
+  pub holds : book.fault (itemsIn sheet) ≡ book.none → length (areaIn sheet) + span ≤ length buf
+      → take (length (areaIn sheet)) buf ≡ areaIn sheet
+
+-- what is said of a sheet by what its items say
+unfoldable pub endedAs : (sheet : List ℕ) → Pass → Judgement
+endedAs sheet (pass.Items n) = judgementFrom (book.tooLong 24 n) n (kindIn sheet) (flagsIn sheet)
+endedAs sheet (pass.Broken r) = judgement.Refused r
 
 -- ---- What is written
 

@@ -16,7 +16,7 @@ ghost use Rattle.meaning.specs.Framing.{headLength};
 ghost use Rattle.shape.specs.Codes.{codeOf, shapeBy};
 ghost use Rattle.item.specs.Stands.{raw, shaped, standsAs};
 ghost use Rattle.writing.specs.Attributes.{span, profileText, valueAs, attributeFront, lengthsAt, Digited, Laying, Attributed};
-ghost use Rattle.writing.specs.Answers.{frontOf, refusedAs, endedAs, itemsRefusal, Transcribed, judgementOf, sizeOf, HandedOver, Wrote};
+ghost use Rattle.writing.specs.Answers.{frontOf, brokenAs, Transcribed, endedAs, judgementOf, sizeOf, HandedOver, Wrote};
 
 // "24: area to be written over 4,076 octets".
 const LONGEST: usize = 4076;
@@ -54,6 +54,12 @@ pub enum Judgement {
 enum Front {
     Fit,
     Refused(Refusal),
+}
+
+// What the items of a sheet say: the octets of their attributes, or 22 or 23.
+enum Pass {
+    Items(usize),
+    Broken(Refusal),
 }
 
 // Lays four octets, which have room there.
@@ -294,36 +300,21 @@ fn is_marked(sheet: &[u8]) -> bool
         & ((sheet[1] == b'I') & ((sheet[2] == b'R') & ((sheet[3] == 0) & (sheet[4] == 1))))
 }
 
-// A refusal, by its number and second number.
-fn refused(number: u32, second: usize) -> Judgement
-    ensures { λ r. ⌜ r ≡ refusedAs number second ⌝ }
+// 22 or 23, at a place of a sheet.
+fn broken(number: u32, place: usize) -> Pass
+    ensures { λ r. ⌜ r ≡ brokenAs number place ⌝ }
 {
-    Judgement::Refused(Refusal { number, second })
+    Pass::Broken(Refusal {
+        number,
+        second: place,
+    })
 }
 
-// What is said of a sheet whose items end at a place and give so many octets: 22 where octets remain, 24, or that it is written.
-fn ended(sheet: &[u8], place: usize, size: usize) -> Judgement
-    requires { ⌜ 9 ≤ length (now sheet) ⌝ }
-    ensures { λ r. ⌜ r ≡ endedAs (now (sheet .entry)) place size ⌝ }
-{
-    if place < sheet.len() {
-        return refused(22, place);
-    }
-    if LONGEST < size {
-        return refused(24, size);
-    }
-    Judgement::Writable {
-        size,
-        kind: sheet[5],
-        flags: sheet[6],
-    }
-}
-
-// Tests and lays the items of a sheet from the left, and says what is to be said of them. An item that begins behind the last place where
+// Tests and lays the items of a sheet from the left, and tests what remains behind them. An item that begins behind the last place where
 // any has room is laid at that place again and again, and counted.
-fn transcribe(sheet: &[u8], buf: &mut [u8]) -> Judgement
+fn transcribe(sheet: &[u8], buf: &mut [u8]) -> Pass
     requires { ⌜ (9 ≤ length (now sheet)) × (span ≤ length (now buf)) ⌝ }
-    ensures { λ r. ⌜ Transcribed (itemsRefusal (now (sheet .entry))) (now (sheet .entry)) r (now (buf .exit)) ⌝ }
+    ensures { λ r. ⌜ Transcribed (now (sheet .entry)) r (now (buf .exit)) ⌝ }
 {
     let last = buf.len() - SPAN;
     let mut left = octets::u16_at(sheet, 7) as usize;
@@ -342,18 +333,44 @@ fn transcribe(sheet: &[u8], buf: &mut [u8]) -> Judgement
                 let rest = &sheet[behind..];
                 let put = put_attribute(buf, at, number, form, count, rest, next - behind);
                 if put == 0 {
-                    return refused(23, place);
+                    return broken(23, place);
                 }
                 written += put;
                 place = next;
                 left -= 1;
             }
             Headed::Refused(refusal) => {
-                return Judgement::Refused(refusal);
+                return Pass::Broken(refusal);
             }
         }
     }
-    ended(sheet, place, written)
+    if place < sheet.len() {
+        return broken(22, place);
+    }
+    Pass::Items(written)
+}
+
+// What is said of a sheet by what its items say: 22 or 23, 24, or that it is written.
+fn ended(sheet: &[u8], pass: Pass) -> Judgement
+    requires { ⌜ 9 ≤ length (now sheet) ⌝ }
+    ensures { λ r. ⌜ r ≡ endedAs (now (sheet .entry)) pass ⌝ }
+{
+    match pass {
+        Pass::Broken(refusal) => Judgement::Refused(refusal),
+        Pass::Items(written) => {
+            if LONGEST < written {
+                return Judgement::Refused(Refusal {
+                    number: 24,
+                    second: written,
+                });
+            }
+            Judgement::Writable {
+                size: written,
+                kind: sheet[5],
+                flags: sheet[6],
+            }
+        }
+    }
 }
 
 // "For write: 20, 21, items from the left": whether it is the items' turn.
@@ -385,7 +402,7 @@ pub fn judge(sheet: &[u8]) -> Judgement
         }
         Front::Fit => {
             let mut buf = [0u8; SPAN];
-            return transcribe(sheet, &mut buf);
+            return ended(sheet, transcribe(sheet, &mut buf));
         }
     }
 }
@@ -439,13 +456,13 @@ pub fn write(sheet: &[u8], area: &mut [u8]) -> Writing
         Front::Fit => {
             if sheet.len() <= SHORT_SHEET {
                 let mut buf = [0u8; SHORT_ROOM];
-                let said = transcribe(sheet, &mut buf);
+                let said = ended(sheet, transcribe(sheet, &mut buf));
                 if size_of(said) <= SHORT_AREA {
                     return hand_over(said, &buf, area);
                 }
             }
             let mut buf = [0u8; ROOM];
-            let said = transcribe(sheet, &mut buf);
+            let said = ended(sheet, transcribe(sheet, &mut buf));
             return hand_over(said, &buf, area);
         }
     }

@@ -10,7 +10,8 @@ use Rattle.item.specs.Answers.{headedAt}
 use Rattle.item.specs.declared.Headed.the-variants.{Item}
 use Rattle.writing.specs.Attributes.{Attributed}
 use Rattle.writing.proofs.Entries.{stored-here, size-is, size-within, behind-head, behind-within, carried-low, attributed-here}
-use Rattle.writing.proofs.Transcribing.{Transcribing, transcribing-none, transcribing-refused, transcribing-23, put-short, transcribing-more, transcribing-ended}
+use Rattle.writing.proofs.Transcribing.{Transcribing, transcribing-none, transcribing-more, put-short}
+use Rattle.writing.proofs.Transcribing.{transcribing-refused, transcribing-23, transcribing-22, transcribing-all}
 use Rattle.writing.proofs.transcribe.Statement.{statement}
 use Rattle.writing.proofs.transcribe.Tie as tie
 
@@ -95,7 +96,8 @@ same-length c = let d = c .before .before .before .before in d .put-attribute .k
 returns : tie.Need-returns Inv-loop μ-loop
 returns c = let d = c .before .before .before .before in
     let k = d .before .before .before .before in
-    rw (c .refused .ensures) (transcribing-23 _ _ _ _ _ (inv k) (some k) (octets k) _ (says k) _ _ _ _ (item k) _ _ _ (attributed d) (c .before .if1 .taken))
+    rw (c .broken .ensures)
+    (transcribing-23 _ _ _ _ _ (inv k) (some k) (octets k) _ (says k) _ _ _ _ (item k) _ _ _ (attributed d) (c .before .if1 .taken))
 
 add-written : tie.Need-add-written Inv-loop μ-loop
 add-written c = let d = c .before .before .before in
@@ -121,11 +123,20 @@ returns-2 c = let l = c .before .before .before .before .before .before .before 
     transcribing-refused _ _ _ _ _ (c .before .before .before .before .before .loop .inv .0) (omega (arith, c .before .before .before .before .loop-test .taken)) (slice-octets l (c .before .before .before .before .before .before .before .before .shared-slice-known .given)) _ (c .before .before .before .head-at .ensures) _ _ (c .before .refusal .given .1)
 
 same-length-3 : tie.Need-same-length-3 Inv-loop μ-loop
-same-length-3 c = c .before .before .loop .inv .1
+same-length-3 c = c .before .before .before .loop .inv .1
 
 returns-3 : tie.Need-returns-3 Inv-loop μ-loop
 returns-3 c =
-    rw (c .ended .ensures) (transcribing-ended _ _ _ _ _ (c .before .before .loop .inv .0) (omega (arith, c .before .loop-test .left)))
+    let k = c .before .before in
+    rw (c .broken2 .ensures)
+    (transcribing-22 _ _ _ _ _ (k .before .loop .inv .0) (omega (arith, k .loop-test .left)) (c .before .if2 .taken))
+
+same-length-4 : tie.Need-same-length-4 Inv-loop μ-loop
+same-length-4 c = c .before .before .loop .inv .1
+
+returns-4 : tie.Need-returns-4 Inv-loop μ-loop
+returns-4 c =
+    transcribing-all _ _ _ _ _ (c .before .before .loop .inv .0) (omega (arith, c .before .loop-test .left)) (omega (arith, c .if2 .left))
 
 pub transcribe-spec : {M : Type 1} → statement M
 transcribe-spec =
@@ -158,4 +169,6 @@ transcribe-spec =
     returns-2
     (λ c κs. search needs)
     same-length-3
-    returns-3)
+    returns-3
+    same-length-4
+    returns-4)

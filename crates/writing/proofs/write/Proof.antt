@@ -13,32 +13,50 @@ transcribe-requires c κs =
     let k = c .before .before in
     (front-nine _ _ (k .before .before .front-of .ensures) (k .enum-told .given .1), omega arith)
 
+ended-requires : tie.Need-ended-requires
+ended-requires c κs =
+    let k = c .before .before .before .before in
+    front-nine _ _ (k .before .before .front-of .ensures) (k .enum-told .given .1)
+
 returns-2 : tie.Need-returns-2
 returns-2 c =
     let i = c .before .before .before .before .before in
-    let t = i .before .before .before in
+    let e = i .before .before in
+    let t = e .before .before in
     let k = t .before .before .before in
-    let j = judged-on _ _ (k .before .before .front-of .ensures) (k .enum-told .given .1) _ _ (t .transcribe .ensures) in
-    written _ _ _ _ _ _ j (omega (arith, i .before .size-of .ensures, i .if2 .taken, t .transcribe .kept .1 .0)) (c .before .before .hand-over .ensures)
+    let j =
+    judged-on _ _ (k .before .before .front-of .ensures) (k .enum-told .given .1) _ _ (t .transcribe .ensures) _ (e .ended .ensures) in
+    written _ _ _ _ (t .transcribe .ensures) _ j (omega (arith, i .before .size-of .ensures, i .if2 .taken, t .transcribe .kept .1 .0)) _ _
+    (c .before .before .hand-over .ensures)
 
 transcribe-requires-2 : tie.Need-transcribe-requires-2
 transcribe-requires-2 c κs =
     let k = c .before .before in
     (front-nine _ _ (k .before .before .front-of .ensures) (k .enum-told .given .1), omega arith)
 
+ended-requires-2 : tie.Need-ended-requires-2
+ended-requires-2 c κs =
+    let k = c .before .before .before .before in
+    front-nine _ _ (k .before .before .front-of .ensures) (k .enum-told .given .1)
+
 hand-over-requires-2 : tie.Need-hand-over-requires-2
 hand-over-requires-2 c κs =
-    let t = c .before .before .before in
+    let e = c .before .before in
+    let t = e .before .before in
     let k = t .before .before .before in
-    let j = judged-on _ _ (k .before .before .front-of .ensures) (k .enum-told .given .1) _ _ (t .transcribe2 .ensures) in
-    omega (arith, size-short _ _ _ j, t .transcribe2 .kept .1 .0)
+    let j =
+    judged-on _ _ (k .before .before .front-of .ensures) (k .enum-told .given .1) _ _ (t .transcribe2 .ensures) _ (e .ended2 .ensures) in
+    omega (arith, size-short _ _ j, t .transcribe2 .kept .1 .0)
 
 returns-3 : tie.Need-returns-3
 returns-3 c =
-    let t = c .before .before .before .before .before .before in
+    let e = c .before .before .before .before .before in
+    let t = e .before .before in
     let k = t .before .before .before in
-    let j = judged-on _ _ (k .before .before .front-of .ensures) (k .enum-told .given .1) _ _ (t .transcribe2 .ensures) in
-    written _ _ _ _ _ _ j (omega (arith, size-short _ _ _ j, t .transcribe2 .kept .1 .0)) (c .before .before .hand-over2 .ensures)
+    let j =
+    judged-on _ _ (k .before .before .front-of .ensures) (k .enum-told .given .1) _ _ (t .transcribe2 .ensures) _ (e .ended2 .ensures) in
+    written _ _ _ _ (t .transcribe2 .ensures) _ j (omega (arith, size-short _ _ j, t .transcribe2 .kept .1 .0)) _ _
+    (c .before .before .hand-over2 .ensures)
 
 pub write-spec : {M : Type 1} → statement M
 write-spec =
@@ -50,6 +68,7 @@ write-spec =
     (λ c. search needs)
     (λ c. search needs)
     transcribe-requires
+    ended-requires
     (λ c κs. search needs)
     (λ c. search needs)
     (λ c κs. search needs)
@@ -57,6 +76,7 @@ write-spec =
     returns-2
     (λ c. search needs)
     transcribe-requires-2
+    ended-requires-2
     (λ c. search needs)
     hand-over-requires-2
     (λ c. search needs)
