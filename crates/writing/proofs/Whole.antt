@@ -157,7 +157,7 @@ written l made d p t j is room said held h = go (judged l) refl is
   where
     go : (r : book.Refusal) → judged l ≡ r → j ≡ judgementBy r l → Wrote l d said held
     go none e q =
-        let all : take (length (areaIn l)) made ≡ areaIn l = t .holds (passed l e .sound) (rw q at room) in
+        let all : take (length (areaIn l)) made ≡ areaIn l = t .holds (unrefused l e .sound) (rw q at room) in
         let p : Handed (areaSaid (kindIn l) (flagsIn l)) 25 (areaIn l) d said held = rw all at (rw q at h) in
         rw e (answered (tooShort 25 (length (areaIn l)) (length d)) (record { kind = kindIn l; flags = flagsIn l; area = areaIn l }) d said held p)
     go (refusal n s) e q = rw e (rw q at h)
