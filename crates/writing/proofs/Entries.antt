@@ -1,6 +1,6 @@
 -- The attribute that an item gives, as the writers lay it, and an item that is found at a place of a sheet. Assumes nothing.
-use mathlib.Core.Path.{_≡_, refl, sym, ap, _∙_}
-use mathlib.Core.Bool.{Bool, true, false}
+use mathlib.Core.Path.{_≡_, sym, ap, _∙_}
+use mathlib.Core.Bool.{true, false}
 use mathlib.Core.List.{List}
 use Prim.Native.Nat.{ℕ, _+_, _-_, _<_, _≤_}
 use native.Mathlib.Omega.{arith}
@@ -12,52 +12,41 @@ use Rattle.meaning.specs.Framing.{headLength, attributeOctets}
 use Rattle.meaning.specs.Sheet.{storedLength, holds, refused}
 use Rattle.meaning.proofs.Octets.{octet-at, octets-take, octets-drop}
 use Rattle.meaning.proofs.Items.{number-low}
-use Rattle.meaning.proofs.Tests.{not-both}
 use Rattle.octets.specs.Parts.{laidAt}
 use Rattle.item.specs.declared.Headed.{Headed}
 use Rattle.item.specs.declared.Headed.the-variants.{Item}
 use Rattle.item.specs.Stands.{standsAs}
 use Rattle.item.specs.Answers.{enteredAt, headedAt}
 use Rattle.item.proofs.Entering.{size-at, AHead, a-head, size-stored, item-is}
+use Rattle.writing.specs.declared.Put.{Put}
+use Rattle.writing.specs.declared.Put.the-variants as put
 use Rattle.writing.specs.Attributes.{valueAs, attributeFront, lengthsAt, Laying, Attributed}
 use Rattle.writing.proofs.Putting.{attribute-long, attribute-stands}
 use Rattle.writing.proofs.Values.{shown}
+use Rattle.writing.proofs.Valuing.{laying-none, laying-begun, laid-not, laid-stands, laid-long}
 
 -- ---- The attribute of an item
 
 -- the front was laid, and the writer of the value answered
-module _ (n f c : ℕ) (st : List ℕ) (o : Octets st) (long : length st ≡ storedLength current f c) (at put : ℕ) (front first : List ℕ)
-    (v : Laying (at + headLength n) (standsAs n f c st) (valueAs n f c st) front put first) where
+module _ (n f c : ℕ) (st : List ℕ) (o : Octets st) (long : length st ≡ storedLength current f c) (at : ℕ) (said : Put)
+    (front first : List ℕ) (v : Laying (at + headLength n) (standsAs n f c st) (valueAs n f c st) front said first) where
   -- no readable attribute gives the item
-  pub attributed-none : put ≡ 256 → (d out : List ℕ) → Attributed at n f c st d 0 out
-  attributed-none e d out = go (standsAs n f c st) refl
-    where
-      go : (b : Bool) → standsAs n f c st ≡ b → Attributed at n f c st d 0 out
-      go false t = record { says = rw t; is = λ q. not-both (sym (sym t ∙ q)) }
-      go true t = absurd (let k : put ≡ length (valueAs n f c st) = v .says ∙ rw t in omega (arith, shown n f c st o long t .short))
+  pub attributed-none : said ≡ put.Nothing → (d out : List ℕ) → Attributed at n f c st d put.Nothing out
+  attributed-none e d out = laying-none at (standsAs n f c st) (attributeOctets n (valueAs n f c st)) d out (laid-not _ _ _ _ _ _ v e)
 
   -- one does
-  module _ (h : put ≡ 256 → ⊥) where
-    stands : standsAs n f c st ≡ true
-    stands = go (standsAs n f c st) refl
-      where
-        go : (b : Bool) → standsAs n f c st ≡ b → b ≡ true
-        go true t = refl
-        go false t = absurd (h (v .says ∙ rw t))
-
-    put-is : put ≡ length (valueAs n f c st)
-    put-is = v .says ∙ rw stands
-
-    pub put-short : headLength n + put < 256
-    put-short = omega (arith, put-is, shown n f c st o long stands .short)
+  module _ (k : ℕ) (h : said ≡ put.Octets k) where
+    pub put-short : headLength n + k < 256
+    put-short = omega (arith, laid-long _ _ _ _ _ _ v k h, shown n f c st o long (laid-stands _ _ _ _ _ _ v k h) .short)
 
     pub attributed : (d out : List ℕ) → at + headLength n ≤ length d → front ≡ laidAt at (attributeFront n) d
-        → out ≡ lengthsAt at (headLength n) put first → Attributed at n f c st d (headLength n + put) out
+        → out ≡ lengthsAt at (headLength n) k first → Attributed at n f c st d (put.Octets (headLength n + k)) out
     attributed d out room g p =
-        record {
-          says = rw stands (omega (arith, put-is, attribute-long n (valueAs n f c st)));
-          is = λ q. attribute-stands n put at (valueAs n f c st) d front first out put-is room g (v .is stands) p;
-        }
+        let stands = laid-stands _ _ _ _ _ _ v k h in
+        let is = laid-long _ _ _ _ _ _ v k h in
+        laying-begun at (standsAs n f c st) (attributeOctets n (valueAs n f c st)) d out stands (headLength n + k)
+        (omega (arith, is, attribute-long n (valueAs n f c st)))
+        (attribute-stands n k at (valueAs n f c st) d front first out is room g (v .is stands) p)
 
 -- ---- At a place
 
@@ -106,8 +95,8 @@ module _ (l : List ℕ) (p : ℕ) (o : Octets l) (r : Headed) (says : r ≡ head
   size-within = omega (arith, ap length rest-is, length-drop (p + 4) l, behind-within)
 
   -- the first of it are its stored octets
-  pub attributed-here : (at put : ℕ) (d out : List ℕ) → Attributed at n f c (take (behind - (p + 4)) rest-here) d put out
-      → Attributed at n f c stored-here d put out
+  pub attributed-here : (at : ℕ) (said : Put) (d out : List ℕ) → Attributed at n f c (take (behind - (p + 4)) rest-here) d said out
+      → Attributed at n f c stored-here d said out
   attributed-here at put d out a = rw rest-is at a
 
   pub no-entry : standsAs n f c stored-here ≡ false → enteredAt l p ≡ refused 23

@@ -1,6 +1,6 @@
 -- The pass over the items of a sheet: each is tested and its attribute laid behind those before it. Assumes nothing.
 use mathlib.Core.Path.{_≡_, refl, sym, ap, _∙_}
-use mathlib.Core.Bool.{Bool, true, false}
+use mathlib.Core.Bool.{true}
 use mathlib.Core.List.{List, [], _++_, append-nil, append-assoc}
 use Prim.Native.Nat.{ℕ, zero, suc, _^_, _+_, _*_, _-_, _<_, _≤_, min}
 use native.Mathlib.Omega.{arith}
@@ -19,9 +19,11 @@ use Rattle.item.specs.Stands.{standsAs}
 use Rattle.item.specs.Answers.{enteredAt, headedAt}
 use Rattle.item.proofs.Entering.{a-refusal}
 use Rattle.writing.specs.declared.Pass.the-variants.{Items, Broken}
+use Rattle.writing.specs.declared.Put.{Put}
+use Rattle.writing.specs.declared.Put.the-variants as put-variants
 use Rattle.writing.specs.Attributes.{span, valueAs, Attributed}
 use Rattle.writing.specs.Answers.{brokenAs, Transcribed}
-use Rattle.writing.proofs.Putting.{head-two, attribute-long}
+use Rattle.writing.proofs.Valuing.{laid-not, laid-stands, laid-long}
 use Rattle.writing.proofs.Entries.{Entry, stored-here, no-entry, entry-here}
 use Rattle.writing.proofs.Walking.{itemsAt, items-start, items-enter, items-refuse, items-end, items-remain}
 
@@ -82,8 +84,8 @@ module _ (l d : List ℕ) (left place written : ℕ) (j : Transcribing l d left 
       (broken-here l d left place written (x .number) j some (a .0) ∙ ap (refusal (x .number)) (sym (a .1)))
 
   -- an item, and what the writer of its attribute answered
-  module _ (n f c behind : ℕ) (q : r ≡ Item n f c behind) (at put : ℕ) (out : List ℕ)
-      (v : Attributed at n f c (stored-here l place o r says n f c behind q) d put out) where
+  module _ (n f c behind : ℕ) (q : r ≡ Item n f c behind) (at : ℕ) (said : Put) (out : List ℕ)
+      (v : Attributed at n f c (stored-here l place o r says n f c behind q) d said out) where
     -- the octets that it stores
     abbrev st : List ℕ
     st = stored-here l place o r says n f c behind q
@@ -92,30 +94,21 @@ module _ (l d : List ℕ) (left place written : ℕ) (j : Transcribing l d left 
     abbrev attribute : List ℕ
     attribute = attributeOctets n (valueAs n f c st)
 
-    pub transcribing-23 : put ≡ 0 → Transcribed l (brokenAs 23 place) out
+    pub transcribing-23 : said ≡ put-variants.Nothing → Transcribed l (brokenAs 23 place) out
     transcribing-23 e =
         refused-by l out 23 place
-        (broken-here l d left place written 23 j some (no-entry l place o r says n f c behind q (go (standsAs n f c st) refl)))
-      where
-        go : (b : Bool) → standsAs n f c st ≡ b → b ≡ false
-        go false t = refl
-        go true t = absurd (let k : put ≡ length attribute = v .says ∙ rw t in omega (arith, attribute-long n (valueAs n f c st), head-two n))
+        (broken-here l d left place written 23 j some (no-entry l place o r says n f c behind q (laid-not _ _ _ _ _ _ v e)))
 
-    -- the item stands
-    stands : (put ≡ 0 → ⊥) → standsAs n f c st ≡ true
-    stands h = go (standsAs n f c st) refl
-      where
-        go : (b : Bool) → standsAs n f c st ≡ b → b ≡ true
-        go true t = refl
-        go false t = absurd (h (v .says ∙ rw t))
-
-    module _ (h : put ≡ 0 → ⊥) where
-      -- what is known of it
-      abbrev e : Entry l place n (valueAs n f c st) behind
-      e = entry-here l place o r says n f c behind q (stands h)
+    module _ (put : ℕ) (h : said ≡ put-variants.Octets put) where
+      stands : standsAs n f c st ≡ true
+      stands = laid-stands _ _ _ _ _ _ v put h
 
       put-is : put ≡ length attribute
-      put-is = v .says ∙ rw (stands h)
+      put-is = laid-long _ _ _ _ _ _ v put h
+
+      -- what is known of it
+      abbrev e : Entry l place n (valueAs n f c st) behind
+      e = entry-here l place o r says n f c behind q stands
 
       pub put-short : put < 256
       put-short = omega (arith, e .short, put-is)
@@ -123,7 +116,7 @@ module _ (l d : List ℕ) (left place written : ℕ) (j : Transcribing l d left 
       pub transcribing-more : span ≤ length d → at ≡ min written (length d - span) → Transcribing l out (left - 1) behind (written + put)
       unfolding fault attributes areaOf
       transcribing-more room place-is =
-          let b = v .is (stands h) in
+          let b = v .is stands in
           let w : itemsAt l left place ≡ next (record { place = place; number = n; value = valueAs n f c st }) (itemsAt l (left - 1) behind) =
           items-enter l left place n (valueAs n f c st) (e .size) some (e .entered-is)
           ∙ ap (λ (b : ℕ). next (record { place = place; number = n; value = valueAs n f c st }) (itemsAt l (left - 1) b)) (sym (e .behind-is)) in

@@ -13,6 +13,8 @@ use Rattle.octets.specs.Parts.{Begun}
 use Rattle.octets.specs.DigitStrings.{packedDigits, decimals}
 use Rattle.shape.specs.Codes.{codeOf}
 use Rattle.item.specs.Stands.{standsAs}
+use Rattle.writing.specs.declared.Put.{Put}
+use Rattle.writing.specs.declared.Put.the-variants.{Octets, Nothing}
 
 -- room for one attribute wherever it begins: a head of 8 octets and a value of at most 255
 abbrev pub span : ℕ
@@ -44,13 +46,11 @@ pub record Digited (at count : ℕ) (st d : List ℕ) (said : Bool) (out : List 
   pub says : said ≡ packedDigits count st
   pub is : said ≡ true → Begun at (decimals (unpack count st)) d out
 
--- what a writer of a value at a place says, its octets or 256 where it does not stand, and that it stands there then
-pub record Laying (at : ℕ) (stands : Bool) (value d : List ℕ) (said : ℕ) (out : List ℕ) : Type 0 where
-  pub says : said ≡ cond stands (length value) 256
+-- what a writer of octets at a place says, how many they are where they stand for an item, and that they are there then
+pub record Laying (at : ℕ) (stands : Bool) (value d : List ℕ) (said : Put) (out : List ℕ) : Type 0 where
+  pub says : said ≡ cond stands (Octets (length value)) Nothing
   pub is : stands ≡ true → Begun at value d out
 
--- what the writer of an item's attribute at a place says, its octets or 0, and that it stands there then, where some readable attribute
--- gives the item
-pub record Attributed (at n f c : ℕ) (st d : List ℕ) (said : ℕ) (out : List ℕ) : Type 0 where
-  pub says : said ≡ cond (standsAs n f c st) (length (attributeOctets n (valueAs n f c st))) 0
-  pub is : standsAs n f c st ≡ true → Begun at (attributeOctets n (valueAs n f c st)) d out
+-- the same of an item's attribute
+abbrev pub Attributed : (at number form count : ℕ) (stored buffer : List ℕ) (said : Put) (held : List ℕ) → Type 0
+Attributed at n f c st = Laying at (standsAs n f c st) (attributeOctets n (valueAs n f c st))

@@ -35,9 +35,6 @@ const SHORT_AREA: usize = 377;
 
 const SHORT_ROOM: usize = 640;
 
-// What a writer of a value says where no readable attribute gives the item: more octets than a value can have.
-const NOTHING: usize = 256;
-
 // What writing answers: the octets of the area that stands at the buffer's start, with the kind and flags of the sheet, or a refusal.
 pub enum Writing {
     Area { length: usize, kind: u8, flags: u8 },
@@ -60,6 +57,12 @@ enum Front {
 enum Pass {
     Items(usize),
     Broken(Refusal),
+}
+
+// What a writer of a value or an attribute says: its octets, or that no readable attribute gives the item.
+enum Put {
+    Octets(usize),
+    Nothing,
 }
 
 // Lays four octets, which have room there.
@@ -150,55 +153,55 @@ fn put_digits(buf: &mut [u8], at: usize, count: usize, stored: &[u8]) -> bool
     true
 }
 
-// Lays four octets of a number or an address, where the item's number is of that form; `NOTHING` where it is not.
-fn put_fours(buf: &mut [u8], at: usize, own: bool, stored: &[u8]) -> usize
+// Lays four octets of a number or an address, where the item's number is of that form; `Nothing` where it is not.
+fn put_fours(buf: &mut [u8], at: usize, own: bool, stored: &[u8]) -> Put
     requires { ⌜ at + 4 ≤ length (now buf) ⌝ }
     ensures { λ r. ⌜ Laying at (own && eqb (length (now (stored .entry))) 4) (now (stored .entry)) (now (buf .entry)) r
         (now (buf .exit)) ⌝ }
 {
     if !own {
-        return NOTHING;
+        return Put::Nothing;
     }
     if stored.len() != 4 {
-        return NOTHING;
+        return Put::Nothing;
     }
     put_four(buf, at, [stored[0], stored[1], stored[2], stored[3]]);
-    4
+    Put::Octets(4)
 }
 
-// Lays the digits of an item in form 4 and gives their count; `NOTHING` where no readable attribute gives the item.
-fn put_packed(buf: &mut [u8], at: usize, code: u8, count: u8, stored: &[u8]) -> usize
+// Lays the digits of an item in form 4 and gives their count; `Nothing` where no readable attribute gives the item.
+fn put_packed(buf: &mut [u8], at: usize, code: u8, count: u8, stored: &[u8]) -> Put
     requires { ⌜ (length (now stored) ≡ packedLength count) × (at + 255 ≤ length (now buf)) ⌝ }
     ensures { λ r. ⌜ Laying at (shaped (shapeBy code) 4 count (now (stored .entry))) (text (unpack count (now (stored .entry))))
         (now (buf .entry)) r (now (buf .exit)) ⌝ }
 {
     let n = octets::wide(count);
     if !item::takes_digits(code, count) {
-        return NOTHING;
+        return Put::Nothing;
     }
     if !put_digits(buf, at, n, stored) {
-        return NOTHING;
+        return Put::Nothing;
     }
-    n
+    Put::Octets(n)
 }
 
-// Lays the text of an item in form 6 and gives its octets; `NOTHING` where no readable attribute gives the item.
-fn put_qos(buf: &mut [u8], at: usize, code: u8, stored: &[u8]) -> usize
+// Lays the text of an item in form 6 and gives its octets; `Nothing` where no readable attribute gives the item.
+fn put_qos(buf: &mut [u8], at: usize, code: u8, stored: &[u8]) -> Put
     requires { ⌜ at + 255 ≤ length (now buf) ⌝ }
     ensures { λ r. ⌜ Laying at (shaped (shapeBy code) 6 (length (now (stored .entry))) (now (stored .entry)))
         (profileText (now (stored .entry))) (now (buf .entry)) r (now (buf .exit)) ⌝ }
 {
     if code != shape::QOS {
-        return NOTHING;
+        return Put::Nothing;
     }
     if !item::holds_qos(stored) {
-        return NOTHING;
+        return Put::Nothing;
     }
     put_profile(buf, at, stored);
-    1 + 2 * stored.len()
+    Put::Octets(1 + 2 * stored.len())
 }
 
-// Lays a value that stands as it is, the first `size` octets of `rest`, and gives its octets; `NOTHING` where no readable attribute gives
+// Lays a value that stands as it is, the first `size` octets of `rest`, and gives its octets; `Nothing` where no readable attribute gives
 // the item. A short one goes with what stands behind it.
 fn put_raw(
     buf: &mut [u8],
@@ -208,23 +211,23 @@ fn put_raw(
     form: u8,
     rest: &[u8],
     size: usize,
-) -> usize
+) -> Put
     requires { ⌜ (size ≤ length (now rest)) × (at + 255 ≤ length (now buf)) ⌝ }
     ensures { λ r. ⌜ Laying at (raw number code form (take size (now (rest .entry)))) (take size (now (rest .entry))) (now (buf .entry)) r
         (now (buf .exit)) ⌝ }
 {
     if !item::is_raw(number, code, form, &rest[..size]) {
-        return NOTHING;
+        return Put::Nothing;
     }
     if size <= 16 {
         octets::copy_sixteen(buf, at, rest);
     } else {
         octets::copy_at(buf, at, &rest[..size]);
     }
-    size
+    Put::Octets(size)
 }
 
-// Lays the value that an item stands for, by the first `size` octets of `rest`, and gives its octets; `NOTHING` where no readable attribute
+// Lays the value that an item stands for, by the first `size` octets of `rest`, and gives its octets; `Nothing` where no readable attribute
 // gives the item.
 fn put_value(
     buf: &mut [u8],
@@ -235,7 +238,7 @@ fn put_value(
     count: u8,
     rest: &[u8],
     size: usize,
-) -> usize
+) -> Put
     requires { ⌜ (code ≡ codeOf (shapeOf number)) ×
         ((size ≡ storedLength current form count) × ((size ≤ length (now rest)) × (at + 255 ≤ length (now buf)))) ⌝ }
     ensures { λ r. ⌜ Laying at (standsAs number form count (take size (now (rest .entry))))
@@ -248,24 +251,24 @@ fn put_value(
         4 => put_packed(buf, at, code, count, stored),
         5 => {
             if (code != shape::HEXADECIMAL) | (size != 8) {
-                return NOTHING;
+                return Put::Nothing;
             }
             octets::unpack_at(buf, at, stored, 16);
-            16
+            Put::Octets(16)
         }
         6 => put_qos(buf, at, code, stored),
         7 => {
             if !item::is_octet(code, stored) {
-                return NOTHING;
+                return Put::Nothing;
             }
             buf[at] = octet_text(code, stored[0]);
-            1
+            Put::Octets(1)
         }
         _ => put_raw(buf, at, number, code, form, rest, size),
     }
 }
 
-// Lays the attribute that an item gives and says how many octets it has; 0 where no readable attribute gives the item.
+// Lays the attribute that an item gives and says how many octets it has; `Nothing` where no readable attribute gives the item.
 fn put_attribute(
     buf: &mut [u8],
     at: usize,
@@ -274,19 +277,18 @@ fn put_attribute(
     count: u8,
     rest: &[u8],
     size: usize,
-) -> usize
+) -> Put
     requires { ⌜ (number < 512) × ((size ≡ storedLength current form count) × ((size ≤ length (now rest)) × (at + span ≤ length (now buf)))) ⌝ }
     ensures { λ r. ⌜ Attributed at number form count (take size (now (rest .entry))) (now (buf .entry)) r (now (buf .exit)) ⌝ }
 {
     let code = shape::code_of(number);
     let head = area::head_len(number);
     put_front(buf, at, number);
-    let put = put_value(buf, at + head, number, code, form, count, rest, size);
-    if put == NOTHING {
-        return 0;
-    }
+    let Put::Octets(put) = put_value(buf, at + head, number, code, form, count, rest, size) else {
+        return Put::Nothing;
+    };
     put_lengths(buf, at, head, put);
-    head + put
+    Put::Octets(head + put)
 }
 
 // Whether octets begin with the mark and the version of a sheet and have its nine octets.
@@ -331,10 +333,11 @@ fn transcribe(sheet: &[u8], buf: &mut [u8]) -> Pass
                 let at = octets::least(written, last);
                 let behind = place + 4;
                 let rest = &sheet[behind..];
-                let put = put_attribute(buf, at, number, form, count, rest, next - behind);
-                if put == 0 {
+                let size = next - behind;
+                let Put::Octets(put) = put_attribute(buf, at, number, form, count, rest, size)
+                else {
                     return broken(23, place);
-                }
+                };
                 written += put;
                 place = next;
                 left -= 1;

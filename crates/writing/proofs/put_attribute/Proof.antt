@@ -1,7 +1,7 @@
 -- The front, the value and the lengths; or nothing, where the value does not stand. Assumes nothing.
 use borrow.Author.Needs.{needs}
 use mathlib.Core.Path.{_≡_, _∙_}
-use Prim.Native.Nat.{_+_, _<_, _≤_}
+use Prim.Native.Nat.{ℕ, _+_, _<_, _≤_}
 use native.Mathlib.Omega.{arith}
 use lib.ListN.{length, take}
 use lib.Seq.{length-take-le}
@@ -12,6 +12,7 @@ use Rattle.meaning.specs.Sheet.{storedLength}
 use Rattle.meaning.proofs.Octets.{octets-take}
 use Rattle.octets.proofs.Parts.{slice-octets}
 use Rattle.item.specs.Stands.{standsAs}
+use Rattle.writing.specs.declared.Put.the-variants as put
 use Rattle.writing.specs.Attributes.{valueAs, Laying}
 use Rattle.writing.proofs.Putting.{head-two, head-eight}
 use Rattle.writing.proofs.Entries.{attributed-none, put-short, attributed}
@@ -46,9 +47,8 @@ valued : (k : tie.After-put-value) →
     Laying (a .at + headLength (a .number)) (standsAs (a .number) (a .form) (a .count) st) (valueAs (a .number) (a .form) (a .count) st) (k .before .before .before .before .put-front .last .0) (k .put-value .result) (k .put-value .last .0))
 valued k = rw (head (headed k)) at (k .put-value .ensures)
 
-short : (k : tie.After-put-value) → (k .put-value .result ≡ 256 → ⊥)
-    → headLength (start (headed k) .args .number) + k .put-value .result < 256
-short k h = put-short _ _ _ _ (octets (headed k)) (long (start (headed k))) _ _ _ _ (valued k) h
+short : (k : tie.After-put-value) (n : ℕ) → k .put-value .result ≡ put.Octets n → headLength (start (headed k) .args .number) + n < 256
+short k n h = put-short _ _ _ _ (octets (headed k)) (long (start (headed k))) _ _ _ _ (valued k) n h
 
 put-front-requires : tie.Need-put-front-requires
 put-front-requires c κs = let s = start (c .before) in (s .pre .0, omega (arith, s .pre .1 .1 .1, head-eight (s .args .number)))
@@ -62,20 +62,31 @@ put-value-requires c κs = let k = c .before .before .before .before .before in
     (k .before .code-of .ensures, (p .1 .0, (p .1 .1 .0, omega (arith, p .1 .1 .1, head-low k, c .before .before .before .put-front .kept .0))))
 
 returns : tie.Need-returns
-returns c = let k = c .before .before .before in attributed-none _ _ _ _ (octets (headed k)) (long (start (headed k))) _ _ _ _ (valued k) (c .if1 .taken) _ _
+returns c =
+    let k = c .before .before .before .before in
+    attributed-none _ _ _ _ (octets (headed k)) (long (start (headed k))) _ _ _ _ (valued k) (c .enum-told .given .1) _ _
 
 put-lengths-requires : tie.Need-put-lengths-requires
-put-lengths-requires c κs = let k = c .before .before .before .before in
-    let e = head (headed k) in
-    (omega (arith, e, head-two (start (headed k) .args .number)), (omega (arith, e, short k (c .before .if1 .left)), omega (arith, head-low (headed k), start (headed k) .pre .1 .1 .1, k .put-value .kept .0, k .before .before .before .before .put-front .kept .0)))
-
-add-result : tie.Need-add-result
-add-result c = let k = c .before .before .before .before .before .before .before in omega (arith, head (headed k), short k (c .before .before .before .before .if1 .left))
+put-lengths-requires c κs =
+    let k = c .before .before .before .before .before .before in
+    let h = headed k in
+    let same = k .before .before .before .before .put-front .kept .0 in (
+      omega (arith, head h, head-two (start h .args .number)),
+      (
+        omega (arith, head h, short k _ (c .before .before .put .given .1)),
+        omega (arith, head-low h, start h .pre .1 .1 .1, k .put-value .kept .0, same),
+      ),
+    )
 
 returns-2 : tie.Need-returns-2
-returns-2 c = let k = c .before .before .before .before .before .before .before in
-    let e = head (headed k) in
-    rw e (attributed _ _ _ _ (octets (headed k)) (long (start (headed k))) _ _ _ _ (valued k) (c .before .before .before .before .if1 .left) _ _ (omega (arith, e, head-low (headed k), start (headed k) .pre .1 .1 .1)) (k .before .before .before .before .put-front .ensures) (rw e at (c .before .before .put-lengths .ensures)))
+returns-2 c =
+    let p = c .before .before .before .before .before in
+    let k = p .before .before .before .before in
+    let h = headed k in
+    rw (head h)
+    (attributed _ _ _ _ (octets h) (long (start h)) _ _ _ _ (valued k) _ (p .put .given .1) _ _
+    (omega (arith, head h, head-low h, start h .pre .1 .1 .1)) (k .before .before .before .before .put-front .ensures)
+    (rw (head h) at (c .before .before .put-lengths .ensures)))
 
 pub put-attribute-spec : {M : Type 1} → statement M
 put-attribute-spec =
@@ -87,8 +98,12 @@ put-attribute-spec =
     add-put-value
     put-value-requires
     (λ c. search needs)
+    (λ c. search needs)
+    (λ c. search needs)
     returns
     put-lengths-requires
-    add-result
+    (λ c.
+    let k = c .before .before .before .before .before .before .before .before .before in
+    omega (arith, head (headed k), short k _ (c .before .before .before .before .before .put .given .1)))
     (λ c. search needs)
     returns-2)

@@ -24,12 +24,6 @@ returns-2 c = profile-none _ _ _ _ (sym (c .before .holds-qos .ensures) ∙ not-
 put-profile-requires : tie.Need-put-profile-requires
 put-profile-requires c κs = let p = held c in (p .some, omega (arith, p .few, c .before .before .before .before .before .before .pre))
 
-mul-result : tie.Need-mul-result
-mul-result c = omega (arith, held (c .before .before .before) .few)
-
-add-result : tie.Need-add-result
-add-result c = omega (arith, held (c .before .before .before) .few)
-
 returns-3 : tie.Need-returns-3
 returns-3 c = let k = c .before .before .before in
     let l = k .before .before .before .before .before .before .args .stored .now in
@@ -43,7 +37,7 @@ put-qos-spec =
     (λ c κs. search needs)
     returns-2
     put-profile-requires
-    mul-result
-    add-result
+    (λ c. omega (arith, held (c .before .before .before) .few))
+    (λ c. omega (arith, held (c .before .before .before) .few))
     (λ c. search needs)
     returns-3)

@@ -82,8 +82,8 @@ sub-rest c = omega (arith, after (c .before), within (c .before))
 part-rest-start : tie.Need-part-rest-start Inv-loop μ-loop
 part-rest-start c = omega (arith, after (c .before), within (c .before))
 
-sub-put-attribute : tie.Need-sub-put-attribute Inv-loop μ-loop
-sub-put-attribute c = omega (arith, after (c .before .before .before))
+sub-size : tie.Need-sub-size Inv-loop μ-loop
+sub-size c = omega (arith, after (c .before .before))
 
 put-attribute-requires : tie.Need-put-attribute-requires Inv-loop μ-loop
 put-attribute-requires c κs = let k = c .before .before .before in
@@ -91,29 +91,37 @@ put-attribute-requires c κs = let k = c .before .before .before in
     (carried-low _ _ (octets k) _ (says k) _ _ _ _ (item k), (size-is _ _ (octets k) _ (says k) _ _ _ _ (item k), (size-within _ _ (octets k) _ (says k) _ _ _ _ (item k), omega (arith, room k, kept k, m))))
 
 same-length : tie.Need-same-length Inv-loop μ-loop
-same-length c = let d = c .before .before .before .before in d .put-attribute .kept .0 ∙ kept (d .before .before .before .before)
+same-length c = let d = c .before .before .before .before .before in d .put-attribute .kept .0 ∙ kept (d .before .before .before .before)
 
 returns : tie.Need-returns Inv-loop μ-loop
-returns c = let d = c .before .before .before .before in
+returns c = let d = c .before .before .before .before .before in
     let k = d .before .before .before .before in
     rw (c .broken .ensures)
-    (transcribing-23 _ _ _ _ _ (inv k) (some k) (octets k) _ (says k) _ _ _ _ (item k) _ _ _ (attributed d) (c .before .if1 .taken))
+    (transcribing-23 _ _ _ _ _ (inv k) (some k) (octets k) _ (says k) _ _ _ _ (item k) _ _ _ (attributed d)
+    (c .before .enum-told .given .1))
 
 add-written : tie.Need-add-written Inv-loop μ-loop
-add-written c = let d = c .before .before .before in
+add-written c = let d = c .before .before .before .before .before in
     let k = d .before .before .before .before in
-    omega (arith, put-short _ _ _ _ _ (inv k) (some k) (octets k) _ (says k) _ _ _ _ (item k) _ _ _ (attributed d) (c .if1 .left), inv k .few)
+    let i = inv k in
+    omega
+    (arith, put-short _ _ _ _ _ i (some k) (octets k) _ (says k) _ _ _ _ (item k) _ _ _ (attributed d) _ (c .before .put .given .1), i .few)
 
 sub-left : tie.Need-sub-left Inv-loop μ-loop
-sub-left c = omega (arith, some (c .before .before .before .before .before .before .before))
+sub-left c = omega (arith, some (c .before .before .before .before .before .before .before .before .before))
 
 loop-less : tie.Need-loop-less Inv-loop μ-loop
-loop-less c = omega (arith, some (c .before .before .before .before .before .before .before))
+loop-less c = omega (arith, some (c .before .before .before .before .before .before .before .before .before))
 
 loop-again : tie.Need-loop-again Inv-loop μ-loop
-loop-again c = let d = c .before .before .before in
-    let k = d .before .before .before .before in
-    (transcribing-more _ _ _ _ _ (inv k) (some k) (octets k) _ (says k) _ _ _ _ (item k) _ _ _ (attributed d) (c .if1 .left) (room k) (d .before .before .before .least .ensures ∙ ap (λ (n : ℕ). min (k .before .before .before .before .before .loop .written) (n - 263)) (sym (kept k))), d .put-attribute .kept .0 ∙ kept k)
+loop-again c = let d = c .before .before .before .before .before in
+    let k = d .before .before .before .before in (
+      transcribing-more _ _ _ _ _ (inv k) (some k) (octets k) _ (says k) _ _ _ _ (item k) _ _ _ (attributed d) _
+          (c .before .put .given .1) (room k)
+          (d .before .before .before .least .ensures
+          ∙ ap (λ (n : ℕ). min (k .before .before .before .before .before .loop .written) (n - 263)) (sym (kept k))),
+      d .put-attribute .kept .0 ∙ kept k,
+    )
 
 same-length-2 : tie.Need-same-length-2 Inv-loop μ-loop
 same-length-2 c = c .before .before .before .before .before .loop .inv .1
@@ -129,14 +137,14 @@ returns-3 : tie.Need-returns-3 Inv-loop μ-loop
 returns-3 c =
     let k = c .before .before in
     rw (c .broken2 .ensures)
-    (transcribing-22 _ _ _ _ _ (k .before .loop .inv .0) (omega (arith, k .loop-test .left)) (c .before .if2 .taken))
+    (transcribing-22 _ _ _ _ _ (k .before .loop .inv .0) (omega (arith, k .loop-test .left)) (c .before .if1 .taken))
 
 same-length-4 : tie.Need-same-length-4 Inv-loop μ-loop
 same-length-4 c = c .before .before .loop .inv .1
 
 returns-4 : tie.Need-returns-4 Inv-loop μ-loop
 returns-4 c =
-    transcribing-all _ _ _ _ _ (c .before .before .loop .inv .0) (omega (arith, c .before .loop-test .left)) (omega (arith, c .if2 .left))
+    transcribing-all _ _ _ _ _ (c .before .before .loop .inv .0) (omega (arith, c .before .loop-test .left)) (omega (arith, c .if1 .left))
 
 pub transcribe-spec : {M : Type 1} → statement M
 transcribe-spec =
@@ -155,8 +163,10 @@ transcribe-spec =
     sub-rest
     part-rest-start
     (λ c. search needs)
-    sub-put-attribute
+    sub-size
     put-attribute-requires
+    (λ c. search needs)
+    (λ c. search needs)
     (λ c κs. search needs)
     same-length
     returns
