@@ -23,7 +23,8 @@ use Rattle.desk.specs.declared.Checking.{Checking}
 use Rattle.desk.specs.declared.Checking.the-variants as checking-is
 use Rattle.desk.specs.declared.Writing.{Writing}
 use Rattle.desk.specs.declared.Writing.the-variants as writing-is
-use Rattle.desk.specs.Answers.{readingOf, checkingOf, writingOf, Read, Checked, Wrote, readingOut, checkingOut, writingOut, ReadOut, CheckedOut, WroteOut}
+use Rattle.desk.specs.Answers.{readingOf, checkingOf, writingOf, Read, Checked, Wrote}
+use Rattle.desk.specs.Answers.{readingOut, checkingOut, writingOut, ReadOut, CheckedOut, WroteOut}
 
 -- A promise stays one where its answer is shown in another way.
 turned :

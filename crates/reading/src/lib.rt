@@ -234,7 +234,8 @@ fn sheet_head(kind: u32, flags: u32, count: usize) -> [u8; 9]
 // Lays a sheet, its head and its items, at the buffer's start; or refusal 9 where it has not the room.
 fn hand_over(kind: u32, flags: u32, count: usize, items: &[u8], sheet: &mut [u8]) -> Reading
     requires { ⌜ (kind < 256) × (flags < 256) × (count < 65536) × (length (now items) ≤ longestItems) ⌝ }
-    ensures { λ r. ⌜ Handed readingOf 9 (sheetHead current kind flags count ++ now (items .entry)) (now (sheet .entry)) r (now (sheet .exit)) ⌝ }
+    ensures { λ r. ⌜ Handed readingOf 9 (sheetHead current kind flags count ++ now (items .entry))
+        (now (sheet .entry)) r (now (sheet .exit)) ⌝ }
 {
     let needed = 9 + items.len();
     if sheet.len() < needed {
@@ -249,8 +250,8 @@ fn hand_over(kind: u32, flags: u32, count: usize, items: &[u8], sheet: &mut [u8]
     Reading::Sheet(needed)
 }
 
-// What an area that comes with a fit kind, flags and length is answered, by what the pass over it gave: the first of refusals 4 to 8, or the
-// sheet, whose items are copied from the buffer in which they were laid, so that nothing is written before every refusal is ruled out.
+// What an area that comes with a fit kind, flags and length is answered, by what the pass over it gave: the first of refusals 4 to 8,
+// or the sheet, whose items are copied from the buffer in which they were laid, so that nothing is written before every refusal is ruled out.
 fn conclude(
     area: &[u8],
     kind: u32,

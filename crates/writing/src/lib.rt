@@ -278,7 +278,8 @@ fn put_attribute(
     rest: &[u8],
     size: usize,
 ) -> Put
-    requires { ⌜ (number < 512) × ((size ≡ storedLength current form count) × ((size ≤ length (now rest)) × (at + span ≤ length (now buf)))) ⌝ }
+    requires { ⌜ (number < 512) × ((size ≡ storedLength current form count)
+        × ((size ≤ length (now rest)) × (at + span ≤ length (now buf)))) ⌝ }
     ensures { λ r. ⌜ Attributed at number form count (take size (now (rest .entry))) (now (buf .entry)) r (now (buf .exit)) ⌝ }
 {
     let code = shape::code_of(number);
