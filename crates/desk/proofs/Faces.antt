@@ -62,7 +62,9 @@ write-shows : (a : Answer Written) → writeFaced (write-answers.writingOf a) �
 write-shows (given w) = refl
 write-shows (refused n s) = refl
 
-module _ (kind flags : ℕ) (area d : List ℕ) (said : read-below.Reading) (held : List ℕ) (r : read-answers.Read kind flags area d said held) where
+module _
+    (kind flags : ℕ) (area d : List ℕ) (said : read-below.Reading) (held : List ℕ)
+    (r : read-answers.Read kind flags area d said held) where
   pub read-faced : (x : read-below.Reading) → said ≡ x → Read kind flags area d (readFaced x) held
   read-faced x q = turned readFaced (read-shows (readAnswer kind flags area (length d))) r x (readFaced x) q refl
 

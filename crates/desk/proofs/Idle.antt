@@ -4,9 +4,9 @@
 use mathlib.Core.Path.{_≡_, refl, sym, ap, _∙_}
 use mathlib.Core.Bool.{cond}
 use mathlib.Core.List.{List, [], _∷_, _++_}
-use Prim.Native.Nat.{ℕ, _≤_}
+use Prim.Native.Nat.{ℕ, _+_, _≤_}
 use native.Mathlib.Omega.{arith}
-use lib.ListN.{length, replicate, getD}
+use lib.ListN.{length, replicate, getD, length-replicate}
 use Rattle.meaning.specs.Versions.{current}
 use Rattle.meaning.specs.Jobs.{Context, comes}
 use Rattle.meaning.specs.Framing.{isPlain, Attribute, walk, attributes}
@@ -162,29 +162,43 @@ number-invented b keeps c area buffer l a n said =
     let e : checking.List n ≡ checking.List (length l) = sym said ∙ listed .says in
     cc
 
--- P4 and P5: the empty area in kinds 1 and 4, with room for 8 entries
-empty :
-    (kind : ℕ) → Readable kind 0 [] → length (listOf (comes kind 0) []) ≤ 8
-    → Listable (comes kind 0) [] (replicate 8 0) (listOf (comes kind 0) [])
-empty kind r room = record { readable = r; lists = list-lists (comes kind 0) [] tt; room = room }
-
-p4 : Listable (comes 1 0) [] (replicate 8 0) (listOf (comes 1 0) [])
-unfolding computing
-p4 = empty 1 (record { octets = tt; accepted = refl }) (omega arith)
-
-p5 : Listable (comes 4 0) [] (replicate 8 0) (listOf (comes 4 0) [])
-unfolding computing
-p5 = empty 4 (record { octets = tt; accepted = refl }) (omega arith)
-
+-- P4 and P5: the empty area in kinds 1 and 4 has three entries and one
 p4-p5 : (length (listOf (comes 1 0) []) ≡ 3) × (length (listOf (comes 4 0) []) ≡ 1)
 unfolding computing
 p4-p5 = (refl, refl)
 
--- One whose list is fixed, say empty, is shut out by demand 3 with P4 and P5: they have three entries and one.
+module _ (buffer : List ℕ) (room : 3 ≤ length buffer) where
+  p4 : Listable (comes 1 0) [] buffer (listOf (comes 1 0) [])
+  unfolding computing
+  p4 =
+      record {
+        readable = record { octets = tt; accepted = refl };
+        lists = list-lists (comes 1 0) [] tt;
+        room = omega (arith, p4-p5 .0, room);
+      }
+
+  p5 : Listable (comes 4 0) [] buffer (listOf (comes 4 0) [])
+  unfolding computing
+  p5 =
+      record {
+        readable = record { octets = tt; accepted = refl };
+        lists = list-lists (comes 4 0) [] tt;
+        room = omega (arith, p4-p5 .1, room);
+      }
+
+-- what a build does with each readable area that has room for its list
+abbrev pub OnListable : ((c : Context) (area buffer : List ℕ) → Type 0) → Type 0
+OnListable Does = (c : Context) (area buffer l : List ℕ) → Listable c area buffer l → Does c area buffer
+
+-- One whose list is fixed, say empty, and given wherever it has room too, is shut out by demand 3 with P4 and P5.
 pub list-fixed :
     (b : CheckBuild) → KeepsCheck b → (l : List ℕ)
-    → ((c : Context) (area buffer m : List ℕ) → Listable c area buffer m → b c area buffer .0 ≡ checking.List (length l)) → ⊥
+    → OnListable (λ c area buffer. length l ≤ length buffer → b c area buffer .0 ≡ checking.List (length l)) → ⊥
 list-fixed b keeps l fixed =
-    let three = number-invented b keeps (comes 1 0) [] (replicate 8 0) _ p4 (length l) (fixed (comes 1 0) [] (replicate 8 0) _ p4) in
-    let one = number-invented b keeps (comes 4 0) [] (replicate 8 0) _ p5 (length l) (fixed (comes 4 0) [] (replicate 8 0) _ p5) in
-    omega (arith, three, one, p4-p5 .0, p4-p5 .1)
+    let buffer : List ℕ = replicate (3 + length l) 0 in
+    let long : length buffer ≡ 3 + length l = length-replicate {A = ℕ} (3 + length l) 0 in
+    let three : 3 ≤ length buffer = omega (arith, long) in
+    let fits : length l ≤ length buffer = omega (arith, long) in
+    let first = number-invented b keeps (comes 1 0) [] buffer _ (p4 buffer three) (length l) (fixed (comes 1 0) [] buffer _ (p4 buffer three) fits) in
+    let second = number-invented b keeps (comes 4 0) [] buffer _ (p5 buffer three) (length l) (fixed (comes 4 0) [] buffer _ (p5 buffer three) fits) in
+    omega (arith, first, second, p4-p5 .0, p4-p5 .1)
