@@ -10,7 +10,8 @@ use borrow.Author.Tests.{le-leb, lt-leb, leb-true, leb-false}
 use borrow.Rule.Slice.PartMut.{putMid}
 use lib.Dec.{leb}
 use lib.ListN.{length, take, drop, getD, set, length-append, length-take, length-drop, length-set, drop-of-length-le}
-use lib.Seq.{length-take-le, take-length, take-all, take-suc, drop-cons, drop-drop, drop-append-add, take-add, paste, paste-zero, paste-suc, set-at, append-snoc, take-at, drop-at}
+use lib.Seq.{length-take-le, take-length, take-all, take-suc, drop-cons, drop-drop, drop-append-add, take-add, paste, paste-zero, paste-suc}
+use lib.Seq.{set-at, append-snoc, take-at, drop-at}
 use Rattle.meaning.specs.Answers.{over}
 use Rattle.octets.specs.Parts.{partOf, Overlaid, fitsAt, laidAt, Laid}
 
@@ -21,11 +22,6 @@ over-none d = refl
 pub over-length : (s d : List ℕ) → length s ≤ length d → length (over s d) ≡ length d
 unfolding over
 over-length s d h = simp (length-append, length-drop) (omega arith)
-
--- what was laid over stands at the start
-pub over-front : (s d : List ℕ) → take (length s) (over s d) ≡ s
-unfolding over
-over-front s d = take-at s (drop (length s) d) (length s) refl
 
 over-snoc : (s d : List ℕ) (x n : ℕ) → length s ≡ n → n < length d → set (over s d) n x ≡ over (s ++ (x ∷ [])) d
 unfolding over
@@ -279,7 +275,8 @@ module _ (at : ℕ) (s d : List ℕ) (n : ℕ) (fit : Bool) (size : n ≡ length
   laid-part p e q =
       let room : at + n ≤ length d = laid-room e in
       let all : take (length d - at) (drop at d) ≡ drop at d = take-all (length d - at) (drop at d) (omega (arith, length-drop at d)) in
-      let none : drop (length d - at) (drop at d) ≡ [] = drop-of-length-le (drop at d) {i = length d - at} (omega (arith, length-drop at d)) in
+      let none : drop (length d - at) (drop at d) ≡ [] =
+      drop-of-length-le (drop at d) {i = length d - at} (omega (arith, length-drop at d)) in
       record {
         says = sym e ∙ fit-is;
         holds = ap (λ (r : List ℕ). take at d ++ r) (ap (λ (r : List ℕ). p ++ r) none ∙ append-nil p ∙ q ∙ ap (over s) all) ∙ sym (laid-fits at s d (omega arith));
@@ -292,6 +289,14 @@ laid-short at s d h = laid-not at s d (length s) _ refl refl (lt-leb (at + lengt
 pub laid-there : (at : ℕ) (s d p : List ℕ) → at + length s ≤ length d → p ≡ over s (take (length d - at) (drop at d))
     → Laid at s d true (putMid at (length d - at) d p)
 laid-there at s d p h q = laid-part at s d (length s) _ refl refl p (le-leb (at + length s) (length d) h) q
+
+-- What was copied over the start of a lent part with room for it, by the promise of the kit's `bytes::copy`, said of the whole buffer.
+pub copied-there : (at : ℕ) (s d p : List ℕ) → at + length s ≤ length d
+    → p ≡ take (length s) s ++ drop (length s) (take (length d - at) (drop at d)) → putMid at (length d - at) d p ≡ laidAt at s d
+unfolding over
+copied-there at s d p h q =
+    let whole : take (length s) s ≡ s = take-all (length s) s (omega arith) in
+    laid-there at s d p h (q ∙ ap (λ (r : List ℕ). r ++ drop (length s) (take (length d - at) (drop at d))) whole) .holds
 
 -- Any two answers that a writer's promise permits are the same, the buffer included.
 pub one-laid : (at : ℕ) (s d : List ℕ) (said said′ : Bool) (held held′ : List ℕ) → Laid at s d said held → Laid at s d said′ held′

@@ -89,7 +89,8 @@ unfolding partOf
 qos-put v digits release at size buf first out r q n room f h =
     let e : digits ≡ drop 3 v = q ∙ take-all (length v) (drop 3 v) (omega (arith, length-drop 3 v)) in
     let one : Begun at (release ∷ []) buf first = begun-laid at (release ∷ []) buf first (omega arith) f in
-    let rest : Begun (at + 1) (pack (halves (drop 3 v))) first out = begun-laid (at + 1) (pack (halves (drop 3 v))) first out (omega (arith, rest-long v, one .kept)) (rw e at h) in
+    let rest : Begun (at + 1) (pack (halves (drop 3 v))) first out =
+    begun-laid (at + 1) (pack (halves (drop 3 v))) first out (omega (arith, rest-long v, one .kept)) (rw e at h) in
     record {
       says = omega (arith, rest-long v);
       holds = rw r at (begun-on at (at + 1) (release ∷ []) (pack (halves (drop 3 v))) buf first out refl one rest);

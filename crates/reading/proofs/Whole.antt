@@ -61,7 +61,8 @@ module _ (kind flags count : ℕ) (items d : List ℕ) where
       → Handed readingOf 9 (sheetHead current kind flags count ++ items) d (Sheet (9 + length items)) held
   both-laid head headed held is room first behind =
       let nine : length head ≡ 9 = ap length is ∙ head-long kind flags count in
-      let all : held ≡ over (head ++ items) d = behind ∙ laid-behind head items d headed 9 nine (first ∙ laid-first head d (omega arith)) room in
+      let all : held ≡ over (head ++ items) d =
+      behind ∙ laid-behind head items d headed 9 nine (first ∙ laid-first head d (omega arith)) room in
       rw (sym whole-long) (handed-over readingOf 9 (sheetHead current kind flags count ++ items) d held (omega (arith, whole-long)) (rw is at all))
 
 -- ---- The pass

@@ -1,4 +1,4 @@
-// Sheets: an attribute area is read into a sheet. One pass over the area tests the framing, counts the items and lays them into a
+// Reading: an attribute area gives a sheet. One pass over the area tests the framing, counts the items and lays them into a
 // buffer, from which they are copied.
 use area::Arrival;
 use area::Refusal;
@@ -50,32 +50,6 @@ fn release_of(text: &[u8]) -> u8
     ((tens * 10 + ones) % 256) as u8
 }
 
-// Lays four octets, which have room there.
-fn put_four(buf: &mut [u8], at: usize, four: [u8; 4])
-    requires { ⌜ at + 4 ≤ length (now buf) ⌝ }
-    ensures { λ _. ⌜ now (buf .exit) ≡ laidAt at four (now (buf .entry)) ⌝ }
-{
-    buf[at] = four[0];
-    buf[at + 1] = four[1];
-    buf[at + 2] = four[2];
-    buf[at + 3] = four[3];
-}
-
-// Lays eight octets, which have room there.
-fn put_eight(buf: &mut [u8], at: usize, eight: [u8; 8])
-    requires { ⌜ at + 8 ≤ length (now buf) ⌝ }
-    ensures { λ _. ⌜ now (buf .exit) ≡ laidAt at eight (now (buf .entry)) ⌝ }
-{
-    buf[at] = eight[0];
-    buf[at + 1] = eight[1];
-    buf[at + 2] = eight[2];
-    buf[at + 3] = eight[3];
-    buf[at + 4] = eight[4];
-    buf[at + 5] = eight[5];
-    buf[at + 6] = eight[6];
-    buf[at + 7] = eight[7];
-}
-
 // Lays a number: one octet in form 7, else four. The answer of this writer and of those below is how many octets they lay.
 fn put_number(buf: &mut [u8], at: usize, form: u8, n: u32) -> usize
     requires { ⌜ at + 4 ≤ length (now buf) ⌝ }
@@ -85,7 +59,8 @@ fn put_number(buf: &mut [u8], at: usize, form: u8, n: u32) -> usize
         buf[at] = (n % 256) as u8;
         return 1;
     }
-    put_four(buf, at, octets::u32_octets(n));
+    let four = octets::u32_octets(n);
+    bytes::copy(&four, &mut buf[at..]);
     4
 }
 
@@ -136,12 +111,14 @@ fn put_stored(buf: &mut [u8], at: usize, area: &[u8], item: Item) -> usize
             return put_number(buf, at, form, n);
         }
         Value::Address(n) => {
-            put_four(buf, at, octets::u32_octets(n));
+            let four = octets::u32_octets(n);
+            bytes::copy(&four, &mut buf[at..]);
             return 4;
         }
         Value::Digits => {
             let digits = item.digits;
-            put_eight(buf, at, octets::packed(digits));
+            let eight = octets::packed(digits);
+            bytes::copy(&eight, &mut buf[at..]);
             return octets::packed_len(octets::least(digits.len, 15));
         }
         Value::Plain(p) => {
@@ -251,7 +228,8 @@ fn hand_over(kind: u32, flags: u32, count: usize, items: &[u8], sheet: &mut [u8]
 }
 
 // What an area that comes with a fit kind, flags and length is answered, by what the pass over it gave: the first of refusals 4 to 8,
-// or the sheet, whose items are copied from the buffer in which they were laid, so that nothing is written before every refusal is ruled out.
+// or the sheet, whose items are copied from the buffer in which they were laid, so that nothing is written before every refusal is
+// ruled out.
 fn conclude(
     area: &[u8],
     kind: u32,

@@ -65,17 +65,6 @@ enum Put {
     Nothing,
 }
 
-// Lays four octets, which have room there.
-fn put_four(buf: &mut [u8], at: usize, four: [u8; 4])
-    requires { ⌜ at + 4 ≤ length (now buf) ⌝ }
-    ensures { λ _. ⌜ now (buf .exit) ≡ laidAt at four (now (buf .entry)) ⌝ }
-{
-    buf[at] = four[0];
-    buf[at + 1] = four[1];
-    buf[at + 2] = four[2];
-    buf[at + 3] = four[3];
-}
-
 // Lays what stands before an attribute's value but for its lengths: the type, or type 26, the vendor id and the sub-attribute number.
 fn put_front(buf: &mut [u8], at: usize, number: u16)
     requires { ⌜ (number < 512) × (at + headLength number ≤ length (now buf)) ⌝ }
@@ -85,8 +74,9 @@ fn put_front(buf: &mut [u8], at: usize, number: u16)
         buf[at] = number as u8;
         return;
     }
-    put_four(buf, at, [26, 0, 0, 0]);
-    put_four(buf, at + 4, [40, 175, (number - 256) as u8, 0]);
+    let id = octets::u32_octets(area::VENDOR_3GPP);
+    let front = [26, 0, id[0], id[1], id[2], id[3], (number - 256) as u8, 0];
+    bytes::copy(&front, &mut buf[at..]);
 }
 
 // Lays the lengths in the head of an attribute whose value has so many octets: that of the sub-attribute, and that of the whole. A plain
@@ -165,7 +155,8 @@ fn put_fours(buf: &mut [u8], at: usize, own: bool, stored: &[u8]) -> Put
     if stored.len() != 4 {
         return Put::Nothing;
     }
-    put_four(buf, at, [stored[0], stored[1], stored[2], stored[3]]);
+    let four = [stored[0], stored[1], stored[2], stored[3]];
+    bytes::copy(&four, &mut buf[at..]);
     Put::Octets(4)
 }
 

@@ -7,7 +7,8 @@ use native.Mathlib.Omega.{arith}
 use Rattle.octets.proofs.Parts.{slice-octets}
 use Rattle.area.proofs.Steps.{AttributeAt, step-attribute, step-refused, step-ended}
 use Rattle.meaning.specs.Octets.{Octets}
-use Rattle.reading.proofs.Passes.{Passing, passing-none, passing-sum, passing-more, passing-done, passing-broken, number-low, names-fit, item-count, item-within, item-fits}
+use Rattle.reading.proofs.Passes.{Passing, passing-none, passing-sum, passing-more, passing-done, passing-broken, number-low}
+use Rattle.reading.proofs.Passes.{names-fit, item-count, item-within, item-fits}
 use Rattle.reading.proofs.put_items.Statement.{statement}
 use Rattle.reading.proofs.put_items.Tie as tie
 
