@@ -51,7 +51,9 @@ module _ (kind flags : ℕ) (area : List ℕ) (r : Arrival) (says : r ≡ arriva
   unfolding arrivalOf areaRefusal kindRefusal framingRefusal
   fit-arrived q = go (isKind kind) (areFlags flags) (ltb 4076 (length area)) refl refl refl (sym q ∙ says)
     where
-      go : (k f t : Bool) → isKind kind ≡ k → areFlags flags ≡ f → ltb 4076 (length area) ≡ t → Fit ≡ arrivalFrom (first (first (when (not k) 1 0) (when (not f) 2 0)) (when t 3 (length area))) → Arrived kind flags area
+      go :
+          (k f t : Bool) → isKind kind ≡ k → areFlags flags ≡ f → ltb 4076 (length area) ≡ t
+          → Fit ≡ arrivalFrom (first (first (when (not k) 1 0) (when (not f) 2 0)) (when t 3 (length area))) → Arrived kind flags area
       go false f t x y z e = absurd (let w : _≡_ {A = ℕ} 0 1 = cc in omega arith)
       go true false t x y z e = absurd (let w : _≡_ {A = ℕ} 0 1 = cc in omega arith)
       go true true true x y z e = absurd (let w : _≡_ {A = ℕ} 0 1 = cc in omega arith)
@@ -61,7 +63,9 @@ module _ (kind flags : ℕ) (area : List ℕ) (r : Arrival) (says : r ≡ arriva
   unfolding arrivalOf areaRefusal kindRefusal framingRefusal
   refused-first refused q = go (isKind kind) (areFlags flags) (ltb 4076 (length area)) (sym q ∙ says)
     where
-      go : (k f t : Bool) → Refused refused ≡ arrivalFrom (first (first (when (not k) 1 0) (when (not f) 2 0)) (when t 3 (length area))) → first (first (when (not k) 1 0) (when (not f) 2 0)) (first (when t 3 (length area)) (fault (walk area))) ≡ refusal (refused .number) (refused .second)
+      go :
+          (k f t : Bool) → Refused refused ≡ arrivalFrom (first (first (when (not k) 1 0) (when (not f) 2 0)) (when t 3 (length area)))
+          → first (first (when (not k) 1 0) (when (not f) 2 0)) (first (when t 3 (length area)) (fault (walk area))) ≡ refusal (refused .number) (refused .second)
       go false f t e = cc
       go true false t e = cc
       go true true true e = cc

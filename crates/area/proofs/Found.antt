@@ -9,7 +9,7 @@ use lib.ListN.{length, drop, getD, length-drop, drop-of-length-le}
 use lib.Seq.{drop-cons, getD-drop}
 use borrow.Author.Tests.{lt-ltb, le-ltb, le-leb, eq-eqb, ne-eqb, leb-true, eqb-true}
 use Rattle.meaning.specs.Octets.{numberOf}
-use Rattle.meaning.specs.Framing.{gpp, attribute, refused, nothing, oneSub, vendorFound, found, foundAt}
+use Rattle.meaning.specs.Framing.{gpp, vendor3gpp, attribute, refused, nothing, oneSub, vendorFound, found, foundAt}
 use Rattle.octets.specs.Parts.{partOf}
 
 -- a sub-attribute's layout that is broken
@@ -41,24 +41,28 @@ module _ (l : List ℕ) (place n : ℕ) where
 
   module _ (long : 7 ≤ n) where
     -- another vendor's
-    pub vendor-other : (numberOf (partOf l (place + 2) 4) ≡ 10415 → ⊥) → vendorFound n (drop (place + 2) l) ≡ attribute 26 2 n
+    pub vendor-other : (numberOf (partOf l (place + 2) 4) ≡ vendor3gpp → ⊥) → vendorFound n (drop (place + 2) l) ≡ attribute 26 2 n
     unfolding vendorFound partOf
-    vendor-other v = simp (le-ltb n 7 long, ne-eqb (numberOf (partOf l (place + 2) 4)) 10415 v)
+    vendor-other v = simp (le-ltb n 7 long, ne-eqb (numberOf (partOf l (place + 2) 4)) vendor3gpp v)
 
-    module _ (id : numberOf (partOf l (place + 2) 4) ≡ 10415) where
+    module _ (id : numberOf (partOf l (place + 2) 4) ≡ vendor3gpp) where
       -- 8: "vendor 10415, sub-attribute layout broken"
-      pub vendor-broken : (2 ≤ getD l (place + 7) 0 → getD l (place + 7) 0 ≤ 248 → getD l (place + 7) 0 ≡ n - 6 → ⊥) → vendorFound n (drop (place + 2) l) ≡ refused 8
+      pub vendor-broken :
+          (2 ≤ getD l (place + 7) 0 → getD l (place + 7) 0 ≤ 248 → getD l (place + 7) 0 ≡ n - 6 → ⊥)
+          → vendorFound n (drop (place + 2) l) ≡ refused 8
       unfolding vendorFound partOf
       vendor-broken f =
           simp
-          (le-ltb n 7 long, eq-eqb (numberOf (partOf l (place + 2) 4)) 10415 id, behind 5 (place + 7) (omega arith), not-one-sub n (getD l (place + 7) 0) f)
+          (le-ltb n 7 long, eq-eqb (numberOf (partOf l (place + 2) 4)) vendor3gpp id, behind 5 (place + 7) (omega arith), not-one-sub n (getD l (place + 7) 0) f)
 
       -- a 3GPP sub-attribute
-      pub vendor-sub : 2 ≤ getD l (place + 7) 0 → getD l (place + 7) 0 ≤ 248 → getD l (place + 7) 0 ≡ n - 6 → vendorFound n (drop (place + 2) l) ≡ attribute (gpp (getD l (place + 6) 0)) 8 n
+      pub vendor-sub :
+          2 ≤ getD l (place + 7) 0 → getD l (place + 7) 0 ≤ 248 → getD l (place + 7) 0 ≡ n - 6
+          → vendorFound n (drop (place + 2) l) ≡ attribute (gpp (getD l (place + 6) 0)) 8 n
       unfolding vendorFound partOf
       vendor-sub a b e =
           simp
-          (le-ltb n 7 long, eq-eqb (numberOf (partOf l (place + 2) 4)) 10415 id, behind 5 (place + 7) (omega arith), behind 4 (place + 6) (omega arith), one-sub n (getD l (place + 7) 0) a b e)
+          (le-ltb n 7 long, eq-eqb (numberOf (partOf l (place + 2) 4)) vendor3gpp id, behind 5 (place + 7) (omega arith), behind 4 (place + 6) (omega arith), one-sub n (getD l (place + 7) 0) a b e)
 
 -- two octets or more from a place on
 drop-two : (l : List ℕ) (place : ℕ) → place + 1 < length l → drop place l ≡ getD l place 0 ∷ getD l (place + 1) 0 ∷ drop (place + 2) l

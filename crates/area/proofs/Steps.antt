@@ -38,10 +38,13 @@ module _ (l : List ℕ) (place : ℕ) where
   -- The answer r of `step_at`, known by what it ensures and by the arm of a match.
   module _ (r : Step) (says : r ≡ stepOf place (foundAt l place)) where
     -- an attribute
-    pub step-attribute : (number : ℕ) (value : Part) (behind : ℕ) → r ≡ step.Attribute number value behind → AttributeAt l place number value behind
+    pub step-attribute :
+        (number : ℕ) (value : Part) (behind : ℕ) → r ≡ step.Attribute number value behind → AttributeAt l place number value behind
     step-attribute number value behind q = go (foundAt l place) refl (sym q ∙ says)
       where
-        go : (f : Found) → foundAt l place ≡ f → step.Attribute number value behind ≡ stepOf place f → AttributeAt l place number value behind
+        go :
+            (f : Found) → foundAt l place ≡ f → step.Attribute number value behind ≡ stepOf place f
+            → AttributeAt l place number value behind
         go (attribute n h s) p e =
             let z = subst (Sized (length (drop place l))) p (sized-at l place) in
             let en : n ≡ number = cc in
@@ -70,7 +73,9 @@ module _ (l : List ℕ) (place : ℕ) where
     pub step-refused : (refusal : Refusal) → r ≡ step.Refused refusal → walkAt l place ≡ broken (refusal .number) (refusal .second)
     step-refused refusal q = go (foundAt l place) refl (sym q ∙ says)
       where
-        go : (f : Found) → foundAt l place ≡ f → step.Refused refusal ≡ stepOf place f → walkAt l place ≡ broken (refusal .number) (refusal .second)
+        go :
+            (f : Found) → foundAt l place ≡ f → step.Refused refusal ≡ stepOf place f
+            → walkAt l place ≡ broken (refusal .number) (refusal .second)
         go (attribute n h s) p e = absurd (let z : _≡_ {A = ℕ} 0 1 = cc in omega arith)
         go (refused k) p e =
             let en : k ≡ refusal .number = cc in

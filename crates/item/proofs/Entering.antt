@@ -78,7 +78,8 @@ module _ (l : List ℕ) (p : ℕ) where
   unfolding enteredAt entered partOf
   judged-at g =
       let first : getD (drop p l) 0 0 ≡ getD l p 0 = getD-drop p l 0 0 ∙ ap (λ (k : ℕ). getD l k 0) (add-zero p) in
-      let whole : 4 + storedLength current (getD (drop p l) 2 0) (getD (drop p l) 3 0) ≤ length (drop p l) = rw (getD-drop p l 2 0, getD-drop p l 3 0, length-drop p l) g in
+      let whole : 4 + storedLength current (getD (drop p l) 2 0) (getD (drop p l) 3 0) ≤ length (drop p l) =
+      rw (getD-drop p l 2 0, getD-drop p l 3 0, length-drop p l) g in
       rw (length-drop p l, le-ltb (length l - p) 4 (omega arith), getD-drop p l 2 0, getD-drop p l 3 0, le-ltb (length l - p) size-at g)
       (rw (first, getD-drop p l 1 0, getD-drop p l 2 0, getD-drop p l 3 0, drop-drop 4 p l) at (whole-stands (drop p l) whole))
 

@@ -9,7 +9,7 @@ use borrow.Author.Tests.{lt-ltb, le-ltb, le-leb, lt-leb, eq-eqb, ne-eqb, eqb-tru
 use lib.ListN.{length}
 use Rattle.meaning.specs.Versions.{current}
 use Rattle.meaning.specs.Octets.{numberOf}
-use Rattle.meaning.specs.Framing.{gpp, isPlain, carries}
+use Rattle.meaning.specs.Framing.{gpp, isPlain, vendor3gpp, carries}
 use Rattle.meaning.specs.Shapes.{shapeOf, meets}
 use Rattle.meaning.specs.Sheet.{subOf, numberIn, storedLength}
 use Rattle.meaning.proofs.Tests.{not-both}
@@ -24,7 +24,7 @@ pub vendor-short : (v : List ℕ) → length v < 5 → false ≡ otherVendor v
 unfolding otherVendor
 vendor-short v h = rw (lt-leb 5 (length v) h)
 
-pub vendor-id : (v : List ℕ) (id : ℕ) → 5 ≤ length v → id ≡ numberOf (partOf v 0 4) → not (eqb id 10415) ≡ otherVendor v
+pub vendor-id : (v : List ℕ) (id : ℕ) → 5 ≤ length v → id ≡ numberOf (partOf v 0 4) → not (eqb id vendor3gpp) ≡ otherVendor v
 unfolding otherVendor partOf
 vendor-id v id h e = rw (le-leb 5 (length v) h, e)
 

@@ -10,7 +10,8 @@ use lib.ListN.{length}
 use borrow.Author.Tests.{le-ltb, eq-eqb, ne-eqb, eqb-true, ltb-false}
 use Rattle.meaning.specs.Octets.{Octets, isIn, between, packedLength}
 use Rattle.meaning.specs.Framing.{isPlain}
-use Rattle.meaning.specs.Shapes.{Shape, number, address, digits, hexadecimal, qos, hexDigit, anyOctet, decimalDigit, atLeast, exactly, blocks, free, shapeOf}
+use Rattle.meaning.specs.Shapes.{Shape, number, address, digits, hexadecimal, qos, hexDigit, anyOctet, decimalDigit, atLeast, exactly}
+use Rattle.meaning.specs.Shapes.{blocks, free, shapeOf}
 use Rattle.meaning.specs.Sheet.{formOf}
 use Rattle.meaning.proofs.Tests.{parts, right-or, not-both}
 use Rattle.meaning.proofs.Forms.{raw-low}

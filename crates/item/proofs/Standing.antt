@@ -11,8 +11,9 @@ use borrow.Author.Tests.{lt-ltb, le-ltb, le-leb, lt-leb, leb-true, leb-false, eq
 use lib.ListN.{length, take}
 use Rattle.meaning.specs.Versions.{current}
 use Rattle.meaning.specs.Octets.{between, all, same, isDigit, isHex, packedLength, unpack, numberOf}
-use Rattle.meaning.specs.Framing.{gpp, isPlain, carries}
-use Rattle.meaning.specs.Shapes.{Shape, number, address, digits, hexadecimal, qos, hexDigit, anyOctet, decimalDigit, atLeast, exactly, blocks, free, plainShape, shapeOf, release, meets}
+use Rattle.meaning.specs.Framing.{gpp, isPlain, vendor3gpp, carries}
+use Rattle.meaning.specs.Shapes.{Shape, number, address, digits, hexadecimal, qos, hexDigit, anyOctet, decimalDigit, atLeast, exactly}
+use Rattle.meaning.specs.Shapes.{blocks, free, plainShape, shapeOf, release, meets}
 use Rattle.meaning.specs.Sheet.{typeOf, subOf, formOf, storedOf, valueOf, decodes, form, stored, count, item, numberIn, storedLength}
 use Rattle.meaning.proofs.Tests.{both, parts, either, is-true, passes, same-one, same-itself}
 use Rattle.meaning.proofs.Packing.{unpack-length}
@@ -45,7 +46,9 @@ unfolding item
 headed n v t s f c st e = record { sub-is = cc; form-is = cc; count-is = cc; stored-is = cc }
 
 -- and an item that says them
-says : (n : ℕ) (v : List ℕ) (t s f c : ℕ) (st : List ℕ) → typeOf n ≡ t → Headed n v t s f c st → T (same (item current n v) (t ∷ s ∷ f ∷ c ∷ st))
+says :
+    (n : ℕ) (v : List ℕ) (t s f c : ℕ) (st : List ℕ) → typeOf n ≡ t → Headed n v t s f c st
+    → T (same (item current n v) (t ∷ s ∷ f ∷ c ∷ st))
 unfolding item
 says n v t s f c st e h = rw (e, h .sub-is, h .form-is, h .count-is, h .stored-is) (same-itself (t ∷ s ∷ f ∷ c ∷ st))
 
@@ -56,7 +59,9 @@ plainly : (n : ℕ) (v : List ℕ) → form current n v ≤ 1 → (count current
 unfolding count
 plainly n v h = go (either-way current n v)
   where
-    go : Decoded current n v ⊎ Plainly current n v → (cond (eqb (form current n v) 4) (length v) (length (stored current n v)) ≡ length v) × (stored current n v ≡ v)
+    go :
+        Decoded current n v ⊎ Plainly current n v
+        → (cond (eqb (form current n v) 4) (length v) (length (stored current n v)) ≡ length v) × (stored current n v ≡ v)
     go (inl d) = absurd (let g : 2 ≤ formOf (shapeOf n) = leb→le 2 _ (d .own) in let e = d .form-is in omega arith)
     go (inr p) = (rw (ne-eqb (form current n v) 4 (λ e. omega arith), p .stored-is), p .stored-is)
 
@@ -77,7 +82,8 @@ raw-formed n f v low = rw (own-code (shapeOf n), shape-back n) (go (leb 2 (formO
         → eqb (cond b (formOf (shapeOf n)) (cond (isPlain n) 0 1)) f && carries n v ≡ eqb (cond (isPlain n) 0 1) f && (not b && carries n v)
     go false e = refl
     go true e =
-        let own : 2 ≤ formOf (shapeOf n) = leb→le 2 (formOf (shapeOf n)) (parts (leb 2 (formOf (shapeOf n))) (meets current (shapeOf n) v) (passes _ e) .0) in
+        let own : 2 ≤ formOf (shapeOf n) =
+        leb→le 2 (formOf (shapeOf n)) (parts (leb 2 (formOf (shapeOf n))) (meets current (shapeOf n) v) (passes _ e) .0) in
         rw (ne-eqb (formOf (shapeOf n)) f (λ g. omega arith)) (sym (and-false (eqb (cond (isPlain n) 0 1) f)))
 
 module _ (t s f c : ℕ) (st : List ℕ) (octet : t < 256) (long : length st ≡ storedLength current f c) where
@@ -117,7 +123,8 @@ short-value number v d f t = omega (arith, eqb→eq (length v) 4 t)
 short-value address v d f t = omega (arith, eqb→eq (length v) 4 t)
 short-value (digits a b) v d f t =
     let g : b ≤ 15 = leb→le b 15 (parts (leb 1 a) (leb b 15) d .1) in
-    let h : length v ≤ b = leb→le (length v) b (parts (leb a (length v)) (leb (length v) b) (parts (between a b (length v)) (all isDigit v) t .0) .1) in
+    let h : length v ≤ b =
+    leb→le (length v) b (parts (leb a (length v)) (leb (length v) b) (parts (between a b (length v)) (all isDigit v) t .0) .1) in
     omega arith
 short-value hexadecimal v d f t = omega (arith, eqb→eq (length v) 16 (parts (eqb (length v) 16) (all isHex v) t .0))
 short-value qos v d f t =
@@ -143,7 +150,7 @@ short-carried n v f h = go (isPlain n)
     plain = rw (ne-eqb n 26 (λ e. no-form-26 (subst (λ (k : ℕ). T (leb 2 (formOf (shapeOf k)))) e f)))
 
     go : (b : Bool)
-        → T (cond b (leb (length v) 253 && (not (eqb n 26) || (leb 5 (length v) && not (eqb (numberOf (take 4 v)) 10415)))) (leb (length v) 246))
+        → T (cond b (leb (length v) 253 && (not (eqb n 26) || (leb 5 (length v) && not (eqb (numberOf (take 4 v)) vendor3gpp)))) (leb (length v) 246))
     go true = rw (le-leb (length v) 253 (omega arith), plain) tt
     go false = passes _ (le-leb (length v) 246 h)
 
@@ -217,7 +224,9 @@ module _ (t s f c : ℕ) (st : List ℕ) (octet : t < 256) (long : length st ≡
       (says numbered stood t s f c st (type-in t s f octet)
       (record { sub-is = eqb→eq (subOf numbered) s (q .0); form-is = d .0 ∙ fe; count-is = counted fe (d .0 ∙ fe) (d .1 ∙ se); stored-is = d .1 ∙ se }))
     where
-      counted : formOf (shapeOf numbered) ≡ f → form current numbered stood ≡ f → stored current numbered stood ≡ st → count current numbered stood ≡ c
+      counted :
+          formOf (shapeOf numbered) ≡ f → form current numbered stood ≡ f → stored current numbered stood ≡ st
+          → count current numbered stood ≡ c
       counted fe e k = go (eqb f 4) refl
         where
           go : (b : Bool) → eqb f 4 ≡ b → count current numbered stood ≡ c

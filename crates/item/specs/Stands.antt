@@ -8,7 +8,8 @@ use lib.ListN.{length, take}
 use Rattle.meaning.specs.Versions.{current}
 use Rattle.meaning.specs.Octets.{between, same, numberOf}
 use Rattle.meaning.specs.Framing.{isPlain, vendor3gpp, carries}
-use Rattle.meaning.specs.Shapes.{Shape, number, address, digits, hexadecimal, qos, hexDigit, anyOctet, decimalDigit, atLeast, exactly, blocks, free, shapeOf, meets}
+use Rattle.meaning.specs.Shapes.{Shape, number, address, digits, hexadecimal, qos, hexDigit, anyOctet, decimalDigit, atLeast, exactly}
+use Rattle.meaning.specs.Shapes.{blocks, free, shapeOf, meets}
 use Rattle.meaning.specs.Sheet.{formOf, storedOf, valueOf, item, numberIn, valueIn}
 use Rattle.shape.specs.Codes.{codeOf, shapeBy}
 

@@ -16,7 +16,8 @@ use Rattle.meaning.specs.Refusals.{Refusal, none, refusal, first, tooSho
 use Rattle.meaning.specs.Sheet.{sheetAs, sheetOf, Readable, versionIn, kindIn, flagsIn, areaIn, judged}
 use Rattle.meaning.specs.Breaches.{Breach, Lists}
 use Rattle.meaning.specs.Listing.{listOf}
-use Rattle.meaning.specs.Answers.{Answer, given, refused, unless, over, after, readAnswer, checkAnswer, Written, writeAnswer, Promise, LaidOver}
+use Rattle.meaning.specs.Answers.{Answer, given, refused, unless, over, after, readAnswer, checkAnswer, Written, writeAnswer, Promise}
+use Rattle.meaning.specs.Answers.{LaidOver}
 use Rattle.meaning.proofs.Sheets.{first-none, when-is-none, sheet-goes-back, accepted-sheet}
 use Rattle.meaning.proofs.Rising.{one-list}
 use Rattle.meaning.proofs.Placed.{list-lists}
@@ -84,7 +85,9 @@ check-given c area room l r lists h =
 -- ---- Write
 
 -- A sheet made by reading is written back, given room: the same octets, kind and flags.
-pub written-back : (kind flags : ℕ) (area : List ℕ) (room : ℕ) → Readable kind flags area → length area ≤ room → writeAnswer (sheetOf kind flags area) room ≡ given (record { kind = kind; flags = flags; area = area })
+pub written-back :
+    (kind flags : ℕ) (area : List ℕ) (room : ℕ) → Readable kind flags area → length area ≤ room
+    → writeAnswer (sheetOf kind flags area) room ≡ given (record { kind = kind; flags = flags; area = area })
 unfolding writeAnswer
 written-back kind flags area room r h =
     let s = sheet-goes-back current kind flags area r in

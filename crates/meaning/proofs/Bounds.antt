@@ -21,13 +21,14 @@ use Rattle.meaning.proofs.Numbers.{octets-octets}
 use Rattle.meaning.proofs.Forms.{stored-le, count-le, stored-octets, form-range}
 use Rattle.meaning.proofs.Framing.{plain-lines, gpp-lines}
 use Rattle.meaning.proofs.Walked.{walked-area, area-back}
-use Rattle.meaning.proofs.Sheets.{clear, attribute-length, area-long}
+use Rattle.meaning.proofs.Framing.{head-two, attribute-long}
+use Rattle.meaning.proofs.Sheets.{clear, area-long}
 
 -- ---- The length
 
 item-bound : (ver : Version) (n : ℕ) (v : List ℕ) → length (item ver n v) ≤ 2 * length (attributeOctets n v)
 unfolding item
-item-bound ver n v = omega (arith, stored-le ver n v, attribute-length n v)
+item-bound ver n v = omega (arith, stored-le ver n v, attribute-long n v, head-two n)
 
 items-bound : (ver : Version) (l : List Attribute) → length (itemsOf ver l) ≤ 2 * length (areaOf l)
 unfolding itemsOf areaOf
@@ -40,7 +41,9 @@ unfolding sheetWith sheetHead octetsOf
 sheet-length ver kind flags l = omega arith
 
 -- The sheet of a readable area is never longer than 9 + 2 x area length.
-pub sheet-bound : (ver : Version) (kind flags : ℕ) (area : List ℕ) → Readable kind flags area → length (sheetAs ver kind flags area) ≤ 9 + 2 * length area
+pub sheet-bound :
+    (ver : Version) (kind flags : ℕ) (area : List ℕ) → Readable kind flags area
+    → length (sheetAs ver kind flags area) ≤ 9 + 2 * length area
 unfolding sheetAs
 sheet-bound ver kind flags area r =
     let c = clear kind flags area (r .accepted) in

@@ -4,7 +4,8 @@ use Rattle.meaning.specs.Jobs.{isKind, areFlags}
 use Rattle.meaning.specs.Framing.{attributeOctets, areaOf, carries, walk, walkAt, from, found, vendorFound, oneSub, attributes}
 use Rattle.meaning.specs.Refusals.{fault, kindRefusal, framingRefusal, areaRefusal, areaOrder, sheetRefusal}
 use Rattle.meaning.specs.Shapes.{shapeOf, plainShape, gppShape, meets, allowed}
-use Rattle.meaning.specs.Sheet.{formOf, storedOf, valueOf, decodes, form, stored, count, item, itemsOf, sheetHead, sheetWith, sheetAs, judgedItem, wholeItem, entered, items, itemsIn, areaIn, marked, judged}
+use Rattle.meaning.specs.Sheet.{formOf, storedOf, valueOf, decodes, form, stored, count, item, itemsOf, sheetHead, sheetWith, sheetAs}
+use Rattle.meaning.specs.Sheet.{judgedItem, wholeItem, entered, items, itemsIn, areaIn, marked, judged}
 use Rattle.meaning.specs.Presence.{notPermitted, mandatory, conditional}
 use Rattle.meaning.specs.Breaches.{entry, misses, offends, onceOnly, barred}
 use Rattle.meaning.specs.Listing.{chosen, view, brokenBy, atAttribute, along, wants, atEnd, breaches, listOf}

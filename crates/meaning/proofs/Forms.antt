@@ -12,9 +12,11 @@ use lib.ListN.{length, take, drop, getD, length-drop}
 use Rattle.meaning.specs.Octets.{between, all, same, Octets, isDigit, digitValue, digitText, values, text, pack, packedLength}
 use Rattle.meaning.specs.Versions.{Version, one, termsOf, isHexIn, formNamed}
 use Rattle.meaning.specs.Framing.{isPlain}
-use Rattle.meaning.specs.Shapes.{Shape, number, address, digits, hexadecimal, qos, hexDigit, anyOctet, decimalDigit, atLeast, exactly, blocks, free, shapeOf, release, meets}
+use Rattle.meaning.specs.Shapes.{Shape, number, address, digits, hexadecimal, qos, hexDigit, anyOctet, decimalDigit, atLeast, exactly}
+use Rattle.meaning.specs.Shapes.{blocks, free, shapeOf, release, meets}
 use Rattle.meaning.specs.Sheet.{formOf, storedOf, valueOf, decodes, form, stored, count, storedLength, valueIn}
-use Rattle.meaning.proofs.Packing.{Hexes, digits-hexes, hexes-octets, values-length, pack-length, packed-values, text-values, text-back, text-back-even, values-halves, halves-octets, packed-octets}
+use Rattle.meaning.proofs.Packing.{Hexes, digits-hexes, hexes-octets, values-length, pack-length, packed-values, text-values}
+use Rattle.meaning.proofs.Packing.{text-back, text-back-even, values-halves, halves-octets, packed-octets}
 use Rattle.meaning.proofs.Tests.{parts, either, passes, not-both, same-one}
 
 -- The hexadecimal digits of a version are digits whose text comes back.
@@ -37,18 +39,26 @@ pub only-form : (ver : Version) (n : ℕ) (v : List ℕ) → T (leb 2 (form ver 
 unfolding form decodes
 only-form ver n v = (there, back)
   where
-    there : T (leb 2 (cond (leb 2 (formOf (shapeOf n)) && meets ver (shapeOf n) v) (formOf (shapeOf n)) (cond (isPlain n) 0 1))) → HasForm n × T (meets ver (shapeOf n) v)
+    there :
+        T (leb 2 (cond (leb 2 (formOf (shapeOf n)) && meets ver (shapeOf n) v) (formOf (shapeOf n)) (cond (isPlain n) 0 1)))
+        → HasForm n × T (meets ver (shapeOf n) v)
     there = go (leb 2 (formOf (shapeOf n))) (meets ver (shapeOf n) v) refl
       where
-        go : (a b : Bool) → leb 2 (formOf (shapeOf n)) ≡ a → T (leb 2 (cond (a && b) (formOf (shapeOf n)) (cond (isPlain n) 0 1))) → T a × T b
+        go :
+            (a b : Bool) → leb 2 (formOf (shapeOf n)) ≡ a → T (leb 2 (cond (a && b) (formOf (shapeOf n)) (cond (isPlain n) 0 1)))
+            → T a × T b
         go true true e t = (tt, tt)
         go true false e t = absurd (rw (lt-leb 2 (cond (isPlain n) 0 1) (omega (arith, raw-low (isPlain n)))) at t)
         go false b e t = absurd (rw (lt-leb 2 (cond (isPlain n) 0 1) (omega (arith, raw-low (isPlain n)))) at t)
 
-    back : HasForm n × T (meets ver (shapeOf n) v) → T (leb 2 (cond (leb 2 (formOf (shapeOf n)) && meets ver (shapeOf n) v) (formOf (shapeOf n)) (cond (isPlain n) 0 1)))
+    back :
+        HasForm n × T (meets ver (shapeOf n) v)
+        → T (leb 2 (cond (leb 2 (formOf (shapeOf n)) && meets ver (shapeOf n) v) (formOf (shapeOf n)) (cond (isPlain n) 0 1)))
     back p = go (leb 2 (formOf (shapeOf n))) (meets ver (shapeOf n) v) refl (p .0) (p .1)
       where
-        go : (a b : Bool) → leb 2 (formOf (shapeOf n)) ≡ a → T a → T b → T (leb 2 (cond (a && b) (formOf (shapeOf n)) (cond (isPlain n) 0 1)))
+        go :
+            (a b : Bool) → leb 2 (formOf (shapeOf n)) ≡ a → T a → T b
+            → T (leb 2 (cond (a && b) (formOf (shapeOf n)) (cond (isPlain n) 0 1)))
         go true true e s t = rw e tt
         go true false e s t = absurd t
         go false b e s t = absurd s
@@ -81,7 +91,9 @@ released-octets a b n (x ∷ y ∷ z ∷ v) h g r =
     let ez : z ≡ 45 = cc in
     (omega arith, (omega arith, (omega arith, hexes-octets v (r .hexes))))
 
-release-octet : (a b n : ℕ) (v : List ℕ) → digitValue a < 16 → digitValue b < 16 → Released a b n v → digitValue (getD v 0 0) * 10 + digitValue (getD v 1 0) < 256
+release-octet :
+    (a b n : ℕ) (v : List ℕ) → digitValue a < 16 → digitValue b < 16 → Released a b n v
+    → digitValue (getD v 0 0) * 10 + digitValue (getD v 1 0) < 256
 release-octet a b n [] h g r = absurd (omega (arith, r .long))
 release-octet a b n (x ∷ []) h g r = absurd (omega (arith, r .long))
 release-octet a b n (x ∷ y ∷ []) h g r = absurd (omega (arith, r .long))
@@ -91,7 +103,9 @@ release-octet a b n (x ∷ y ∷ z ∷ v) h g r =
     let ey : y ≡ b = cc in
     rw (ex, ey) (omega arith)
 
-qos-back : (ver : Version) (a b k : ℕ) (v : List ℕ) → digitText (digitValue a) ≡ a → digitText (digitValue b) ≡ b → digitValue b < 10 → Released a b (2 * k) v → (c : ℕ) → valueOf ver qos c (storedOf ver qos v) ≡ v
+qos-back :
+    (ver : Version) (a b k : ℕ) (v : List ℕ) → digitText (digitValue a) ≡ a → digitText (digitValue b) ≡ b → digitValue b < 10
+    → Released a b (2 * k) v → (c : ℕ) → valueOf ver qos c (storedOf ver qos v) ≡ v
 unfolding valueOf storedOf text
 qos-back ver a b k [] ea eb low r c = absurd (omega (arith, r .long))
 qos-back ver a b k (x ∷ []) ea eb low r c = absurd (omega (arith, r .long))
@@ -108,7 +122,9 @@ qos-back ver a b k (x ∷ y ∷ z ∷ v) ea eb low r c =
     rw (ex, ey, ez, high, low, one, ea, eb) (ap (λ (l : List ℕ). a ∷ b ∷ 45 ∷ l) (text-back-even v k (omega arith) (r .hexes)))
 
 -- The value comes back from the octets it is stored in; the count serves form 4 alone.
-pub value-back : (ver : Version) (s : Shape) (v : List ℕ) (c : ℕ) → T (leb 2 (formOf s)) → T (meets ver s v) → (formOf s ≡ 4 → c ≡ length v) → valueOf ver s c (storedOf ver s v) ≡ v
+pub value-back :
+    (ver : Version) (s : Shape) (v : List ℕ) (c : ℕ) → T (leb 2 (formOf s)) → T (meets ver s v) → (formOf s ≡ 4 → c ≡ length v)
+    → valueOf ver s c (storedOf ver s v) ≡ v
 unfolding formOf meets valueOf storedOf
 value-back ver number v c f t e = refl
 value-back ver address v c f t e = refl
@@ -246,7 +262,9 @@ pub announced : (ver : Version) (n : ℕ) (v : List ℕ) → storedLength ver (f
 unfolding count
 announced ver n v = rw (form-named ver (form ver n v) (form-range ver n v)) (go (eqb (form ver n v) 4) refl (either-way ver n v))
   where
-    go : (b : Bool) → eqb (form ver n v) 4 ≡ b → Decoded ver n v ⊎ Plainly ver n v → cond b (packedLength (cond b (length v) (length (stored ver n v)))) (cond b (length v) (length (stored ver n v))) ≡ length (stored ver n v)
+    go :
+        (b : Bool) → eqb (form ver n v) 4 ≡ b → Decoded ver n v ⊎ Plainly ver n v
+        → cond b (packedLength (cond b (length v) (length (stored ver n v)))) (cond b (length v) (length (stored ver n v))) ≡ length (stored ver n v)
     go false e w = refl
     go true e (inl d) =
         sym (ap length (d .stored-is) ∙ digits-stored ver (shapeOf n) v (sym (d .form-is) ∙ eqb-true (form ver n v) 4 e))

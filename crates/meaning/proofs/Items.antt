@@ -14,7 +14,8 @@ use Rattle.meaning.specs.Octets.{Octets, same}
 use Rattle.meaning.specs.Versions.{Version}
 use Rattle.meaning.specs.Framing.{gpp, isPlain, carries}
 use Rattle.meaning.specs.Shapes.{shapeOf, plainShape}
-use Rattle.meaning.specs.Sheet.{typeOf, subOf, formOf, decodes, form, stored, count, item, numberIn, valueIn, storedLength, holds, refused, judgedItem, wholeItem, entered}
+use Rattle.meaning.specs.Sheet.{typeOf, subOf, formOf, decodes, form, stored, count, item, numberIn, valueIn, storedLength, holds}
+use Rattle.meaning.specs.Sheet.{refused, judgedItem, wholeItem, entered}
 use Rattle.meaning.proofs.Tests.{both, parts, is-true, passes, same-one, same-itself}
 use Rattle.meaning.proofs.Octets.{octet-at}
 use Rattle.meaning.proofs.Forms.{announced, stands-for, either-way}
@@ -39,7 +40,9 @@ number-in ver n v = go (isPlain n) refl
     go false e = let h : 256 ≤ n = ltb-false n 256 e in rw (ne-eqb (form ver n v) 0 (form-3gpp ver n v e)) (omega arith)
 
 -- the item's own octets, out of what follows
-front : (ver : Version) (n : ℕ) (v rest : List ℕ) → take (4 + storedLength ver (form ver n v) (count ver n v)) (item ver n v ++ rest) ≡ item ver n v
+front :
+    (ver : Version) (n : ℕ) (v rest : List ℕ)
+    → take (4 + storedLength ver (form ver n v) (count ver n v)) (item ver n v ++ rest) ≡ item ver n v
 unfolding item
 front ver n v rest = take-at (item ver n v) rest (4 + storedLength ver (form ver n v) (count ver n v)) (omega (arith, announced ver n v))
 
@@ -48,13 +51,15 @@ unfolding judgedItem
 accepts ver n v t = rw (is-true (carries n v && same (item ver n v) (item ver n v)) (both (carries n v) (same (item ver n v) (item ver n v)) t (same-itself (item ver n v))))
 
 -- An item at the front is accepted as the item that it is.
-pub item-entered : (ver : Version) (n : ℕ) (v rest : List ℕ) → T (carries n v) → entered ver (item ver n v ++ rest) ≡ holds n v (length (item ver n v))
+pub item-entered :
+    (ver : Version) (n : ℕ) (v rest : List ℕ) → T (carries n v) → entered ver (item ver n v ++ rest) ≡ holds n v (length (item ver n v))
 unfolding entered wholeItem item
 item-entered ver n v rest t =
     let l : length (stored ver n v ++ rest) ≡ length (stored ver n v) + length rest = length-append (stored ver n v) rest in
     let s : storedLength ver (form ver n v) (count ver n v) ≡ length (stored ver n v) = announced ver n v in
     let four : ltb (length (item ver n v ++ rest)) 4 ≡ false = le-ltb (length (item ver n v ++ rest)) 4 (omega arith) in
-    let whole : ltb (length (item ver n v ++ rest)) (4 + storedLength ver (form ver n v) (count ver n v)) ≡ false = le-ltb (length (item ver n v ++ rest)) (4 + storedLength ver (form ver n v) (count ver n v)) (omega arith) in
+    let whole : ltb (length (item ver n v ++ rest)) (4 + storedLength ver (form ver n v) (count ver n v)) ≡ false =
+    le-ltb (length (item ver n v ++ rest)) (4 + storedLength ver (form ver n v) (count ver n v)) (omega arith) in
     rw (four, whole, front ver n v rest, number-in ver n v, stands-for ver n v) (accepts ver n v t)
 
 -- What is accepted at the front of some octets of a sheet.
@@ -70,11 +75,15 @@ record JudgedAs (ver : Version) (n : ℕ) (v it : List ℕ) (n′ : ℕ) (v′ :
   carried : T (carries n′ v′)
   same-octets : item ver n′ v′ ≡ it
 
-judged-holds : (ver : Version) (n : ℕ) (v it : List ℕ) (n′ : ℕ) (v′ : List ℕ) (size : ℕ) → judgedItem ver n v it ≡ holds n′ v′ size → JudgedAs ver n v it n′ v′ size
+judged-holds :
+    (ver : Version) (n : ℕ) (v it : List ℕ) (n′ : ℕ) (v′ : List ℕ) (size : ℕ) → judgedItem ver n v it ≡ holds n′ v′ size
+    → JudgedAs ver n v it n′ v′ size
 unfolding judgedItem
 judged-holds ver n v it n′ v′ size e = go (carries n v && same (item ver n v) it) refl e
   where
-    go : (b : Bool) → carries n v && same (item ver n v) it ≡ b → cond b (holds n v (length it)) (refused 23) ≡ holds n′ v′ size → JudgedAs ver n v it n′ v′ size
+    go :
+        (b : Bool) → carries n v && same (item ver n v) it ≡ b → cond b (holds n v (length it)) (refused 23) ≡ holds n′ v′ size
+        → JudgedAs ver n v it n′ v′ size
     go true q e =
         let en : n ≡ n′ = cc in
         let ev : v ≡ v′ = cc in
@@ -96,7 +105,9 @@ number-low t s f h g = go (eqb t 26 && not (eqb f 0))
     go false = omega arith
 
 -- What is accepted at the front is the item of what it holds.
-pub entered-holds : (ver : Version) (l : List ℕ) (n : ℕ) (v : List ℕ) (size : ℕ) → Octets l → entered ver l ≡ holds n v size → AcceptedItem ver l n v size
+pub entered-holds :
+    (ver : Version) (l : List ℕ) (n : ℕ) (v : List ℕ) (size : ℕ) → Octets l → entered ver l ≡ holds n v size
+    → AcceptedItem ver l n v size
 unfolding entered wholeItem
 entered-holds ver l n v size o e = go (ltb (length l) 4) (ltb (length l) (4 + storedLength ver (getD l 2 0) (getD l 3 0))) refl e
   where
@@ -106,7 +117,10 @@ entered-holds ver l n v size o e = go (ltb (length l) 4) (ltb (length l) (4 + st
     named : ℕ
     named = numberIn (getD l 0 0) (getD l 1 0) (getD l 2 0)
 
-    whole : 4 + storedLength ver (getD l 2 0) (getD l 3 0) ≤ length l → judgedItem ver named (valueIn ver named (getD l 2 0) (getD l 3 0) (drop 4 (take long l))) (take long l) ≡ holds n v size → AcceptedItem ver l n v size
+    whole :
+        4 + storedLength ver (getD l 2 0) (getD l 3 0) ≤ length l
+        → judgedItem ver named (valueIn ver named (getD l 2 0) (getD l 3 0) (drop 4 (take long l))) (take long l) ≡ holds n v size
+        → AcceptedItem ver l n v size
     whole h e =
         let j = judged-holds ver named (valueIn ver named (getD l 2 0) (getD l 3 0) (drop 4 (take long l))) (take long l) n v size e in
         let s : long ≡ size = sym (length-take-le long l h) ∙ j .size-is in
@@ -117,7 +131,9 @@ entered-holds ver l n v size o e = go (ltb (length l) 4) (ltb (length l) (4 + st
           low = omega (arith, j .number-is, number-low (getD l 0 0) (getD l 1 0) (getD l 2 0) (octet-at l 0 o) (octet-at l 1 o));
         }
 
-    go : (a b : Bool) → ltb (length l) (4 + storedLength ver (getD l 2 0) (getD l 3 0)) ≡ b → cond a (refused 22) (cond b (refused 22) (wholeItem ver l)) ≡ holds n v size → AcceptedItem ver l n v size
+    go :
+        (a b : Bool) → ltb (length l) (4 + storedLength ver (getD l 2 0) (getD l 3 0)) ≡ b
+        → cond a (refused 22) (cond b (refused 22) (wholeItem ver l)) ≡ holds n v size → AcceptedItem ver l n v size
     go true b q e = absurd (let z : _≡_ {A = ℕ} 0 1 = cc in omega arith)
     go false true q e = absurd (let z : _≡_ {A = ℕ} 0 1 = cc in omega arith)
     go false false q e = whole (ltb-false _ _ q) e

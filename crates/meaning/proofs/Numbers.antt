@@ -49,7 +49,8 @@ number-snoc [] x = omega arith
 number-snoc (y ∷ l) x =
     let n : length (l ++ (x ∷ [])) ≡ suc (length l) = length-append l (x ∷ []) ∙ add-one (length l) in
     let p : 256 ^ length (l ++ (x ∷ [])) ≡ 256 ^ length l * 256 = ap (λ (k : ℕ). 256 ^ k) n ∙ pow-suc 256 (length l) in
-    let q : y * 256 ^ length (l ++ (x ∷ [])) ≡ y * 256 ^ length l * 256 = ap (λ (k : ℕ). y * k) p ∙ sym (mul-assoc y (256 ^ length l) 256) in
+    let q : y * 256 ^ length (l ++ (x ∷ [])) ≡ y * 256 ^ length l * 256 =
+    ap (λ (k : ℕ). y * k) p ∙ sym (mul-assoc y (256 ^ length l) 256) in
     omega (arith, number-snoc l x)
 
 -- Octets of one length that stand for one number are the same.
@@ -63,7 +64,8 @@ number-one (x ∷ k) (y ∷ l) ok ol e v =
     let v′ : x * 256 ^ length l + numberOf k ≡ y * 256 ^ length l + numberOf l = rw n at v in
     let below : numberOf k < 256 ^ length l = rw n at (number-fits k (ok .1)) in
     let high : x ≡ y = sym (digits-div x below) ∙ ap (λ (z : ℕ). z / 256 ^ length l) v′ ∙ digits-div y (number-fits l (ol .1)) in
-    let low : numberOf k ≡ numberOf l = sym (digits-mod x below) ∙ ap (λ (z : ℕ). z % 256 ^ length l) v′ ∙ digits-mod y (number-fits l (ol .1)) in
+    let low : numberOf k ≡ numberOf l =
+    sym (digits-mod x below) ∙ ap (λ (z : ℕ). z % 256 ^ length l) v′ ∙ digits-mod y (number-fits l (ol .1)) in
     let rest : k ≡ l = number-one k l (ok .1) (ol .1) n low in
     cc
 

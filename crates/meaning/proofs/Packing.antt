@@ -8,7 +8,8 @@ use lib.Dec.{T, leb}
 use borrow.Author.Tests.{le-leb, lt-leb, leb-true}
 use lib.ListN.{length, length-map}
 use Rattle.meaning.proofs.Tests.{parts, both, left-or}
-use Rattle.meaning.specs.Octets.{between, all, Octets, pack, unpack, packedLength, isDigit, isHex, digitValue, digitText, values, text}
+use Rattle.meaning.specs.Octets.{between, all, Octets, pack, unpack, packedLength, isDigit, isHex, digitValue, digitText, values}
+use Rattle.meaning.specs.Octets.{text}
 
 -- each is a half octet
 abbrev pub Halves : List ℕ → Type 0
@@ -91,7 +92,9 @@ hex-back x t = go (leb 48 x) (leb x 57) (leb 65 x) (leb x 70) refl refl refl ref
     high : 65 ≤ x → digitText (x - 55) ≡ x
     high h = rw (lt-leb (x - 55) 9 (omega arith)) (omega arith)
 
-    go : (a b c d : Bool) → leb 48 x ≡ a → leb x 57 ≡ b → leb 65 x ≡ c → leb x 70 ≡ d → T (a && b || c && d) → digitText (cond b (x - 48) (x - 55)) ≡ x
+    go :
+        (a b c d : Bool) → leb 48 x ≡ a → leb x 57 ≡ b → leb 65 x ≡ c → leb x 70 ≡ d → T (a && b || c && d)
+        → digitText (cond b (x - 48) (x - 55)) ≡ x
     go true true c d p q r s t =
         let h : x ≤ 57 = leb-true x 57 q in
         let g : 48 ≤ x = leb-true 48 x p in

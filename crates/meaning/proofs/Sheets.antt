@@ -2,7 +2,7 @@
 -- the sheet of what it gives; so a sheet is accepted exactly when some readable area has it, and it has one. Assumes nothing.
 use mathlib.Core.Path.{_≡_, refl, sym, ap, ap₂, _∙_}
 use mathlib.Core.Logic.{_↔_}
-use mathlib.Core.Bool.{Bool, true, false, cond, not, _&&_}
+use mathlib.Core.Bool.{Bool, true, false, not, _&&_}
 use mathlib.Core.List.{List, [], _∷_, _++_}
 use Prim.Native.Nat.{ℕ, _+_, _*_, _-_, _<_, _≤_}
 use native.Mathlib.Omega.{arith}
@@ -14,11 +14,13 @@ use Rattle.meaning.specs.Octets.{Octets, same, numberOf, octetsOf}
 use Rattle.meaning.specs.Jobs.{isKind, areFlags}
 use Rattle.meaning.specs.Versions.{Version, one, termsOf}
 use Rattle.meaning.specs.Framing.{isPlain, Attribute, attributeOctets, areaOf, Carried, All, Walk, walkAt, walk, attributes}
-use Rattle.meaning.specs.Refusals.{Refusal, none, refusal, when, first, fault, tooLong, kindRefusal, framingRefusal, areaRefusal, sheetRefusal}
-use Rattle.meaning.specs.Sheet.{mark, itemsOf, sheetHead, sheetWith, sheetAs, Readable, Writable, items, itemsIn, versionIn, kindIn, flagsIn, areaIn, marked, judged}
+use Rattle.meaning.specs.Refusals.{Refusal, none, refusal, when, first, fault, tooLong, kindRefusal, framingRefusal, areaRefusal}
+use Rattle.meaning.specs.Refusals.{sheetRefusal}
+use Rattle.meaning.specs.Sheet.{mark, itemsOf, sheetHead, sheetWith, sheetAs, Readable, Writable, items, itemsIn, versionIn, kindIn}
+use Rattle.meaning.specs.Sheet.{flagsIn, areaIn, marked, judged}
 use Rattle.meaning.proofs.Tests.{parts, is-true, passes, same-one}
 use Rattle.meaning.proofs.Numbers.{number-back, octets-back}
-use Rattle.meaning.proofs.Framing.{plain-lines, gpp-lines}
+use Rattle.meaning.proofs.Framing.{octetsBy, head-two, attribute-long, plain-lines, gpp-lines}
 use Rattle.meaning.proofs.Walked.{no-refusal, walked-area, area-back, no-fault}
 use Rattle.meaning.proofs.RoundTrip.{reread, kept, judged-items}
 use Rattle.meaning.proofs.Octets.{octets-take, octets-drop, octets-append}
@@ -64,20 +66,13 @@ clear-read kind flags area c = rw (c .kind-ok, c .flags-ok, le-ltb 4076 (length 
 
 -- ---- There
 
--- an attribute is its value and two octets more, or eight
-pub attribute-length : (n : ℕ) (v : List ℕ) → length v + 2 ≤ length (attributeOctets n v)
-unfolding attributeOctets octetsOf
-attribute-length n v = go (isPlain n)
-  where
-    go : (b : Bool) → length v + 2 ≤ length (cond b (n ∷ (length v + 2) ∷ v) (26 ∷ (length v + 8) ∷ 0 ∷ 0 ∷ 40 ∷ 175 ∷ (n - 256) ∷ (length v + 2) ∷ v))
-    go true = omega arith
-    go false = omega arith
-
 -- Attributes take two octets each, at least.
 pub area-long : (l : List Attribute) → 2 * length l ≤ length (areaOf l)
 unfolding areaOf
 area-long [] = omega arith
-area-long (a ∷ l) = omega (arith, area-long l, attribute-length (a .number) (a .value), length-append (attributeOctets (a .number) (a .value)) (areaOf l))
+area-long (a ∷ l) =
+    let here = length-append (attributeOctets (a .number) (a .value)) (areaOf l) in
+    omega (arith, area-long l, attribute-long (a .number) (a .value), head-two (a .number), here)
 
 -- What a sheet with these attributes says of itself.
 pub record Says (ver : Version) (kind flags : ℕ) (l : List Attribute) (sheet : List ℕ) : Type 0 where
@@ -139,7 +134,7 @@ attribute-octets a c = go (isPlain (a .number)) refl
     n : ℕ
     n = a .number
 
-    go : (b : Bool) → isPlain n ≡ b → Octets (cond b (n ∷ (length v + 2) ∷ v) (26 ∷ (length v + 8) ∷ 0 ∷ 0 ∷ 40 ∷ 175 ∷ (n - 256) ∷ (length v + 2) ∷ v))
+    go : (b : Bool) → isPlain n ≡ b → Octets (octetsBy b n v)
     go true p =
         let h : n < 256 = ltb-true n 256 p in
         let g : length v ≤ 253 = leb→le (length v) 253 (parts (leb (length v) 253) _ (plain-lines n v p (c .carried)) .0) in
@@ -189,10 +184,12 @@ unrefused sheet e =
     let kind : Bool = isKind (kindIn sheet) in
     let flags : Bool = areFlags (flagsIn sheet) in
     let len : ℕ = length (areaIn sheet) in
-    let a = when-none (not (marked sheet)) 20 0 (first (when (not (kind && flags)) 21 0) (first (fault (itemsIn sheet)) (tooLong 24 len))) e in
+    let a =
+    when-none (not (marked sheet)) 20 0 (first (when (not (kind && flags)) 21 0) (first (fault (itemsIn sheet)) (tooLong 24 len))) e in
     let b = when-none (not (kind && flags)) 21 0 (first (fault (itemsIn sheet)) (tooLong 24 len)) (a .1) in
     let c = first-none (fault (itemsIn sheet)) (tooLong 24 len) (b .1) in
-    let t : T (isKind (kindIn sheet) && areFlags (flagsIn sheet)) = passes (isKind (kindIn sheet) && areFlags (flagsIn sheet)) (not-false (isKind (kindIn sheet) && areFlags (flagsIn sheet)) (b .0)) in
+    let t : T (isKind (kindIn sheet) && areFlags (flagsIn sheet)) =
+    passes (isKind (kindIn sheet) && areFlags (flagsIn sheet)) (not-false (isKind (kindIn sheet) && areFlags (flagsIn sheet)) (b .0)) in
     record {
       marked-is = not-false (marked sheet) (a .0);
       kind-ok = is-true _ (parts (isKind (kindIn sheet)) (areFlags (flagsIn sheet)) t .0);

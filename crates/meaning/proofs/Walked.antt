@@ -10,7 +10,8 @@ use native.Mathlib.Nat.{add-zero}
 use lib.ListN.{length, take, drop, length-append, take-append-drop}
 use lib.Seq.{drop-at, length-take-le}
 use Rattle.meaning.specs.Octets.{Octets}
-use Rattle.meaning.specs.Framing.{headLength, Attribute, attributeOctets, areaOf, carries, Carried, All, WellFramed, Found, attribute, refused, nothing, found, Walk, end, broken, next, onward, from, walkAt, walk, attributes}
+use Rattle.meaning.specs.Framing.{headLength, Attribute, attributeOctets, areaOf, carries, Carried, All, WellFramed, Found, attribute}
+use Rattle.meaning.specs.Framing.{refused, nothing, found, Walk, end, broken, next, onward, from, walkAt, walk, attributes}
 use Rattle.meaning.specs.Refusals.{none, refusal, fault}
 use lib.Dec.{T}
 use Rattle.meaning.proofs.Walks.{from-attribute}
@@ -79,7 +80,8 @@ met p n h s d w o g r =
     let here : List ℕ = attributeOctets n v in
     let long : length here ≡ s = ap length (g .same-octets) ∙ length-take-le s d (g .inside) in
     let back : here ++ drop s d ≡ d = rw (g .same-octets) (take-append-drop s d) in
-    let more : length (here ++ areaOf (attributes w)) ≡ s + length (areaOf (attributes w)) = omega (arith, length-append here (areaOf (attributes w)), long) in
+    let more : length (here ++ areaOf (attributes w)) ≡ s + length (areaOf (attributes w)) =
+    omega (arith, length-append here (areaOf (attributes w)), long) in
     let place : p + s + length (areaOf (attributes w)) ≡ p + length (here ++ areaOf (attributes w)) = omega arith in
     record {
       carried = (record { low = g .low; carried = g .carried; octets = octets-take (s - h) (drop h d) (octets-drop h d o) }, r .carried);

@@ -10,7 +10,8 @@ use lib.ListN.{length, take, drop, getD}
 use lib.Seq.{drop-drop}
 use borrow.Author.Tests.{ltb-false, leb-true, eqb-true}
 use Rattle.meaning.specs.Octets.{numberOf}
-use Rattle.meaning.specs.Framing.{gpp, Found, attribute, refused, nothing, oneSub, vendorFound, found, foundAt, end, broken, next, onward, from, walkAt}
+use Rattle.meaning.specs.Framing.{gpp, Found, attribute, refused, nothing, oneSub, vendorFound, found, foundAt, end, broken, next}
+use Rattle.meaning.specs.Framing.{vendor3gpp, onward, from, walkAt}
 
 -- An attribute's head is two octets or more, and it lies within so many octets.
 abbrev pub Sized : ℕ → Found → Type 0
@@ -20,9 +21,11 @@ Sized k nothing = Unit {0}
 
 vendor-sized : (n k : ℕ) (r : List ℕ) → 2 ≤ n → n ≤ k → Sized k (vendorFound n r)
 unfolding vendorFound oneSub
-vendor-sized n k r h m = go (ltb n 7) (eqb (numberOf (take 4 r)) 10415) (leb 2 (getD r 5 0)) (leb (getD r 5 0) 248) (eqb (getD r 5 0) (n - 6)) refl refl
+vendor-sized n k r h m = go (ltb n 7) (eqb (numberOf (take 4 r)) vendor3gpp) (leb 2 (getD r 5 0)) (leb (getD r 5 0) 248) (eqb (getD r 5 0) (n - 6)) refl refl
   where
-    go : (a b x y z : Bool) → leb 2 (getD r 5 0) ≡ x → eqb (getD r 5 0) (n - 6) ≡ z → Sized k (cond a (refused 7) (cond b (cond (x && (y && z)) (attribute (gpp (getD r 4 0)) 8 n) (refused 8)) (attribute 26 2 n)))
+    go :
+        (a b x y z : Bool) → leb 2 (getD r 5 0) ≡ x → eqb (getD r 5 0) (n - 6) ≡ z
+        → Sized k (cond a (refused 7) (cond b (cond (x && (y && z)) (attribute (gpp (getD r 4 0)) 8 n) (refused 8)) (attribute 26 2 n)))
     go true b x y z p q = tt
     go false false x y z p q = (omega arith, omega arith, omega arith)
     go false true false y z p q = tt
@@ -39,7 +42,9 @@ found-sized [] = tt
 found-sized (t ∷ []) = tt
 found-sized (t ∷ n ∷ r) = go (ltb n 2) (ltb (length r + 2) n) (eqb t 26) refl refl
   where
-    go : (a b x : Bool) → ltb n 2 ≡ a → ltb (length r + 2) n ≡ b → Sized (suc (suc (length r))) (cond a (refused 5) (cond b (refused 6) (cond x (vendorFound n r) (attribute t 2 n))))
+    go :
+        (a b x : Bool) → ltb n 2 ≡ a → ltb (length r + 2) n ≡ b
+        → Sized (suc (suc (length r))) (cond a (refused 5) (cond b (refused 6) (cond x (vendorFound n r) (attribute t 2 n))))
     go true b x p q = tt
     go false true x p q = tt
     go false false true p q =
@@ -71,7 +76,9 @@ from-found p (x ∷ l) (attribute n h s) e =
     (from-skip (s - 1) (suc p) l (omega arith) ∙ ap (λ (q : ℕ). from 0 q (drop (s - 1) l)) r)
 
 -- an attribute at the front, and the walk on behind it
-pub from-attribute : (p : ℕ) (d : List ℕ) (n h s : ℕ) → found d ≡ attribute n h s → from 0 p d ≡ next (record { place = p; number = n; value = take (s - h) (drop h d) }) (from 0 (p + s) (drop s d))
+pub from-attribute :
+    (p : ℕ) (d : List ℕ) (n h s : ℕ) → found d ≡ attribute n h s
+    → from 0 p d ≡ next (record { place = p; number = n; value = take (s - h) (drop h d) }) (from 0 (p + s) (drop s d))
 from-attribute p d n h s e =
     let z = subst (Sized (length d)) e (found-sized d) in
     let q : suc (s - 1) ≡ s = omega arith in
@@ -83,7 +90,9 @@ module _ (l : List ℕ) (at : ℕ) where
   unfolding foundAt
   sized-at = found-sized (drop at l)
 
-  pub walk-attribute : (n h s : ℕ) → foundAt l at ≡ attribute n h s → walkAt l at ≡ next (record { place = at; number = n; value = take (s - h) (drop (at + h) l) }) (walkAt l (at + s))
+  pub walk-attribute :
+      (n h s : ℕ) → foundAt l at ≡ attribute n h s
+      → walkAt l at ≡ next (record { place = at; number = n; value = take (s - h) (drop (at + h) l) }) (walkAt l (at + s))
   unfolding walkAt foundAt
   walk-attribute n h s e = from-attribute at (drop at l) n h s e ∙ rw (drop-drop s at l, drop-drop h at l)
 

@@ -11,6 +11,7 @@ use Rattle.meaning.specs.Octets.{Octets}
 use Rattle.meaning.specs.Framing.{headLength, attributeOctets}
 use Rattle.meaning.specs.Sheet.{storedLength, holds, refused}
 use Rattle.meaning.proofs.Octets.{octet-at, octets-take, octets-drop}
+use Rattle.meaning.proofs.Framing.{attribute-long}
 use Rattle.meaning.proofs.Items.{number-low}
 use Rattle.octets.specs.Parts.{laidAt}
 use Rattle.item.specs.declared.Headed.{Headed}
@@ -21,7 +22,7 @@ use Rattle.item.proofs.Entering.{size-at, AHead, a-head, size-stored, item-is}
 use Rattle.writing.specs.declared.Put.{Put}
 use Rattle.writing.specs.declared.Put.the-variants as put
 use Rattle.writing.specs.Attributes.{valueAs, attributeFront, lengthsAt, Laying, Attributed}
-use Rattle.writing.proofs.Putting.{attribute-long, attribute-stands}
+use Rattle.writing.proofs.Putting.{attribute-stands}
 use Rattle.writing.proofs.Values.{shown}
 use Rattle.writing.proofs.Valuing.{laying-none, laying-begun, laid-not, laid-stands, laid-long}
 

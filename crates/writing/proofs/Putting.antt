@@ -11,31 +11,14 @@ use borrow.Author.Tests.{lt-ltb, le-ltb, le-leb, lt-leb}
 use lib.ListN.{length, take, drop, getD, set, length-drop, length-set}
 use lib.Seq.{take-all, take-suc, length-take-le}
 use Rattle.meaning.specs.Octets.{digitText, text, unpack, octetsOf}
-use Rattle.meaning.specs.Framing.{headLength, attributeOctets}
+use Rattle.meaning.specs.Framing.{headLength, attributeOctets, vendor3gpp}
 use Rattle.meaning.specs.Sheet.{marked}
+use Rattle.meaning.proofs.Framing.{head-two}
 use Rattle.octets.specs.Parts.{laidAt, Begun}
 use Rattle.octets.proofs.Overs.{each-laid, laid-two}
 use Rattle.octets.proofs.Begun.{begun-laid, begun-on}
 use Rattle.item.proofs.Texts.{whole-length}
 use Rattle.writing.specs.Attributes.{attributeFront, lengthsAt, profileText}
-
--- an attribute's head has two octets at least
-pub head-two : (n : ℕ) → 2 ≤ headLength n
-unfolding headLength
-head-two n = go (ltb n 256)
-  where
-    go : (b : Bool) → 2 ≤ cond b 2 8
-    go true = omega arith
-    go false = omega arith
-
--- and eight at most
-pub head-eight : (n : ℕ) → headLength n ≤ 8
-unfolding headLength
-head-eight n = go (ltb n 256)
-  where
-    go : (b : Bool) → cond b 2 8 ≤ 8
-    go true = omega arith
-    go false = omega arith
 
 -- ---- Octets that stand at a place of a buffer
 
@@ -76,11 +59,11 @@ pub plain-front : (n at : ℕ) (d : List ℕ) → n < 256 → at + headLength n 
 unfolding attributeFront octetsOf
 plain-front n at d h room = each-laid at (n ∷ []) d (omega (arith, head-two n)) 0 refl ∙ rw (lt-ltb n 256 h)
 
-pub gpp-front : (n at : ℕ) (d first out : List ℕ) → 256 ≤ n → at + 8 ≤ length d → first ≡ laidAt at (26 ∷ 0 ∷ 0 ∷ 0 ∷ []) d
-    → out ≡ laidAt (at + 4) (40 ∷ 175 ∷ (n - 256) ∷ 0 ∷ []) first → out ≡ laidAt at (attributeFront n) d
+pub gpp-front : (n at : ℕ) (id d out : List ℕ) → 256 ≤ n → id ≡ octetsOf 4 vendor3gpp
+    → out ≡ laidAt at (26 ∷ 0 ∷ getD id 0 0 ∷ getD id 1 0 ∷ getD id 2 0 ∷ getD id 3 0 ∷ (n - 256) ∷ 0 ∷ []) d
+    → out ≡ laidAt at (attributeFront n) d
 unfolding attributeFront octetsOf
-gpp-front n at d first out h room f e =
-    e ∙ rw (f, le-ltb n 256 h) (laid-two at 4 (26 ∷ 0 ∷ 0 ∷ 0 ∷ []) (40 ∷ 175 ∷ (n - 256) ∷ 0 ∷ []) d refl room)
+gpp-front n at id d out h q e = e ∙ rw (q, le-ltb n 256 h)
 
 -- The front, the value behind it and then the lengths: the attribute stands there.
 pub attribute-stands : (n k at : ℕ) (v d front first out : List ℕ) → k ≡ length v → at + headLength n ≤ length d
@@ -89,29 +72,19 @@ pub attribute-stands : (n k at : ℕ) (v d front first out : List ℕ) → k ≡
 unfolding attributeFront attributeOctets octetsOf lengthsAt headLength
 attribute-stands n k at v d front first out long room f w e = rw (sym long) (go (ltb n 256) room f w e)
   where
-    go : (b : Bool) → at + cond b 2 8 ≤ length d → front ≡ laidAt at (cond b (n ∷ []) (26 ∷ 0 ∷ 0 ∷ 0 ∷ 40 ∷ 175 ∷ (n - 256) ∷ 0 ∷ [])) d
+    go : (b : Bool) → at + cond b 2 8 ≤ length d → front ≡ laidAt at (cond b (n ∷ []) (26 ∷ 0 ∷ octetsOf 4 vendor3gpp ++ (n - 256) ∷ 0 ∷ [])) d
         → Begun (at + cond b 2 8) v front first → out ≡ set (set first (at + cond b 2 8 - 1) (k + 2)) (at + 1) (k + cond b 2 8)
-        → Begun at (cond b (n ∷ (k + 2) ∷ v) (26 ∷ (k + 8) ∷ 0 ∷ 0 ∷ 40 ∷ 175 ∷ (n - 256) ∷ (k + 2) ∷ v)) d out
+        → Begun at (cond b (n ∷ (k + 2) ∷ v) (26 ∷ (k + 8) ∷ octetsOf 4 vendor3gpp ++ (n - 256) ∷ (k + 2) ∷ v)) d out
     go true room f w e =
         let x : ℕ = getD front (at + 1) 0 in
         let last : at + 2 - 1 ≡ at + 1 = omega arith in
         let b = begun-on at (at + 2) (n ∷ x ∷ []) v d front first refl (begun-one at n d front room f) w in
         rw (e, last) (begun-set at (n ∷ (k + 2) ∷ v) d _ 1 (k + 2) (omega arith) (begun-set at (n ∷ x ∷ v) d first 1 (k + 2) (omega arith) b))
     go false room f w e =
-        let s : List ℕ = 26 ∷ 0 ∷ 0 ∷ 0 ∷ 40 ∷ 175 ∷ (n - 256) ∷ 0 ∷ [] in
+        let s : List ℕ = 26 ∷ 0 ∷ octetsOf 4 vendor3gpp ++ (n - 256) ∷ 0 ∷ [] in
         let last : at + 8 - 1 ≡ at + 7 = omega arith in
         let b = begun-on at (at + 8) s v d front first refl (begun-laid at s d front room f) w in
-        rw (e, last) (begun-set at (26 ∷ 0 ∷ 0 ∷ 0 ∷ 40 ∷ 175 ∷ (n - 256) ∷ (k + 2) ∷ v) d _ 1 (k + 8) (omega arith) (begun-set at (s ++ v) d first 7 (k + 2) (omega arith) b))
-
--- Its octets are those of the head and those of the value.
-pub attribute-long : (n : ℕ) (v : List ℕ) → length (attributeOctets n v) ≡ headLength n + length v
-unfolding attributeOctets octetsOf headLength
-attribute-long n v = go (ltb n 256)
-  where
-    go : (b : Bool)
-        → length (cond b (n ∷ (length v + 2) ∷ v) (26 ∷ (length v + 8) ∷ 0 ∷ 0 ∷ 40 ∷ 175 ∷ (n - 256) ∷ (length v + 2) ∷ v)) ≡ cond b 2 8 + length v
-    go true = omega arith
-    go false = omega arith
+        rw (e, last) (begun-set at (26 ∷ 0 ∷ octetsOf 4 vendor3gpp ++ (n - 256) ∷ (k + 2) ∷ v) d _ 1 (k + 8) (omega arith) (begun-set at (s ++ v) d first 7 (k + 2) (omega arith) b))
 
 -- ---- A QoS profile
 

@@ -42,7 +42,8 @@ announced-low : (l : List ℕ) (left : ℕ) → Octets l → left ≡ numberOf (
 unfolding partOf
 announced-low l left o e =
     let two : length (take 2 (drop 7 l)) ≤ 2 = omega (arith, length-take 2 (drop 7 l)) in
-    let low : numberOf (take 2 (drop 7 l)) < 256 ^ length (take 2 (drop 7 l)) = number-fits (take 2 (drop 7 l)) (octets-take 2 (drop 7 l) (octets-drop 7 l o)) in
+    let low : numberOf (take 2 (drop 7 l)) < 256 ^ length (take 2 (drop 7 l)) =
+    number-fits (take 2 (drop 7 l)) (octets-take 2 (drop 7 l) (octets-drop 7 l o)) in
     go (length (take 2 (drop 7 l))) two low
   where
     go : (k : ℕ) → k ≤ 2 → numberOf (take 2 (drop 7 l)) < 256 ^ k → left ≤ 65535

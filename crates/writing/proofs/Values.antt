@@ -11,10 +11,11 @@ use lib.ListN.{length, getD}
 use Rattle.meaning.specs.Versions.{current}
 use Rattle.meaning.specs.Octets.{Octets, between, digitText, text, unpack}
 use Rattle.meaning.specs.Framing.{isPlain, headLength, carries}
-use Rattle.meaning.specs.Shapes.{Shape, number, address, digits, hexadecimal, qos, hexDigit, anyOctet, decimalDigit, atLeast, exactly, blocks, free, shapeOf, meets}
+use Rattle.meaning.specs.Shapes.{Shape, number, address, digits, hexadecimal, qos, hexDigit, anyOctet, decimalDigit, atLeast, exactly}
+use Rattle.meaning.specs.Shapes.{blocks, free, shapeOf, meets}
 use Rattle.meaning.specs.Sheet.{formOf, valueOf, valueIn, storedLength}
 use Rattle.meaning.proofs.Tests.{parts, either, is-true, passes, not-both}
-use Rattle.meaning.proofs.Framing.{plain-lines, gpp-lines}
+use Rattle.meaning.proofs.Framing.{head-eight, plain-lines, gpp-lines}
 use Rattle.meaning.proofs.Packing.{unpack-length}
 use Rattle.octets.specs.DigitStrings.{packedDigits}
 use Rattle.shape.specs.Codes.{codeOf, shapeBy}
@@ -22,9 +23,9 @@ use Rattle.shape.proofs.Codes.{fifteen, at-most-fifteen}
 use Rattle.shape.proofs.Formed.{one-octet}
 use Rattle.item.specs.Stands.{standsAs, raw, held, shaped}
 use Rattle.item.proofs.Texts.{text-length, whole-length}
-use Rattle.item.proofs.Held.{number-held, address-held, octet-held, digits-held, hexadecimal-held, hex-digit-held, decimal-digit-held, qos-held, qos-other}
+use Rattle.item.proofs.Held.{number-held, address-held, octet-held, digits-held, hexadecimal-held, hex-digit-held, decimal-digit-held}
+use Rattle.item.proofs.Held.{qos-held, qos-other}
 use Rattle.writing.specs.Attributes.{profileText, valueAs}
-use Rattle.writing.proofs.Putting.{head-eight}
 
 -- an attribute that is carried is no longer than an octet says
 carried-short : (n : ℕ) (v : List ℕ) → T (carries n v) → headLength n + length v < 256

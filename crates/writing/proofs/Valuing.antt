@@ -119,7 +119,8 @@ pub fours-laid : (at : ℕ) (own : Bool) (st d out : List ℕ) → own ≡ true 
     → out ≡ laidAt at (getD st 0 0 ∷ getD st 1 0 ∷ getD st 2 0 ∷ getD st 3 0 ∷ []) d
     → Laying at (own && eqb (length st) 4) st d (put.Octets 4) out
 fours-laid at own st d out e n room h =
-    let four : getD st 0 0 ∷ getD st 1 0 ∷ getD st 2 0 ∷ getD st 3 0 ∷ [] ≡ st = part-four st 0 _ _ _ _ (omega arith) refl refl refl refl ∙ part-rest st 0 4 (omega arith) in
+    let four : getD st 0 0 ∷ getD st 1 0 ∷ getD st 2 0 ∷ getD st 3 0 ∷ [] ≡ st =
+    part-four st 0 _ _ _ _ (omega arith) refl refl refl refl ∙ part-rest st 0 4 (omega arith) in
     laying-laid at (own && eqb (length st) 4) st d out (rw (e, n)) 4 (sym n) room (h ∙ ap (λ (s : List ℕ). laidAt at s d) four)
 
 -- ---- A QoS profile
@@ -184,7 +185,8 @@ module _ (at n code : ℕ) (is : code ≡ codeOf (shapeOf n)) (c : ℕ) (st d : 
       → Laying at (standsAs n f c st) (valueAs n f c st) d said out
   unfolding valueAs
   raw-valued f other said out u =
-      let value-is : st ≡ valueAs n f c st = rw (ne-eqb f 4 (other .0 .0 .0 .1), ne-eqb f 5 (other .0 .0 .1), ne-eqb f 6 (other .0 .1), ne-eqb f 7 (other .1)) in
+      let value-is : st ≡ valueAs n f c st =
+      rw (ne-eqb f 4 (other .0 .0 .0 .1), ne-eqb f 5 (other .0 .0 .1), ne-eqb f 6 (other .0 .1), ne-eqb f 7 (other .1)) in
       laying-as at (raw n code f st) (standsAs n f c st) st (valueAs n f c st) d said out (raw-by-code n code is f c st other) value-is u
 
   -- a form that one code has

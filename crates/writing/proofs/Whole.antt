@@ -64,7 +64,9 @@ module _ (l : List ℕ) where
     unfolding frontOf frontRefusal judged sheetRefusal
     judged-front x e = go (marked l) refl (allowed l) refl (sym e ∙ says)
       where
-        go : (m : Bool) → marked l ≡ m → (a : Bool) → allowed l ≡ a → front.Refused x ≡ frontOf l → judged l ≡ refusal (x .number) (x .second)
+        go :
+            (m : Bool) → marked l ≡ m → (a : Bool) → allowed l ≡ a → front.Refused x ≡ frontOf l
+            → judged l ≡ refusal (x .number) (x .second)
         go false p a q h = let is : x ≡ record { number = 20; second = 0 } = (let g : front.Refused x ≡ frontFrom (refusal 20 0) = rw p at h in cc) in rw (p, is)
         go true p false q h = let is : x ≡ record { number = 21; second = 0 } = (let g : front.Refused x ≡ frontFrom (refusal 21 0) = rw (p, q) at h in cc) in rw (p, q, is)
         go true p true q h = absurd (let g : front.Refused x ≡ front.Fit = rw (p, q) at h in let z : _≡_ {A = ℕ} 0 1 = cc in omega arith)

@@ -2,7 +2,8 @@
 use borrow.Author.Needs.{needs}
 use mathlib.Core.Path.{_∙_}
 use native.Mathlib.Omega.{arith}
-use Rattle.area.proofs.Carrying.{head-short, carried-nothing, carried-here}
+use Rattle.meaning.proofs.Framing.{head-eight}
+use Rattle.area.proofs.Carrying.{carried-nothing, carried-here}
 use Rattle.area.proofs.carried_at.Statement.{statement}
 use Rattle.area.proofs.carried_at.Tie as tie
 
@@ -10,7 +11,7 @@ returns : tie.Need-returns
 returns c = search (needs, carried-nothing)
 
 add-t7 : tie.Need-add-t7
-add-t7 c = omega (arith, head-short _ _ (c .before .before .head-len .ensures))
+add-t7 c = omega (arith, c .before .before .head-len .ensures, head-eight (c .before .before .before .number-at .result))
 
 returns-2 : tie.Need-returns-2
 returns-2 c =

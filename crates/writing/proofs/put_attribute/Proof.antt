@@ -14,7 +14,7 @@ use Rattle.octets.proofs.Parts.{slice-octets}
 use Rattle.item.specs.Stands.{standsAs}
 use Rattle.writing.specs.declared.Put.the-variants as put
 use Rattle.writing.specs.Attributes.{valueAs, Laying}
-use Rattle.writing.proofs.Putting.{head-two, head-eight}
+use Rattle.meaning.proofs.Framing.{head-two, head-eight}
 use Rattle.writing.proofs.Entries.{attributed-none, put-short, attributed}
 use Rattle.writing.proofs.put_attribute.Statement.{statement}
 use Rattle.writing.proofs.put_attribute.Tie as tie

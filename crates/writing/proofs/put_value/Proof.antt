@@ -12,7 +12,8 @@ use Rattle.meaning.specs.Sheet.{storedLength}
 use Rattle.meaning.proofs.Octets.{octets-take}
 use Rattle.octets.proofs.Parts.{slice-octets}
 use Rattle.shape.specs.Codes.{codeOf}
-use Rattle.writing.proofs.Valuing.{number-valued, address-valued, digits-valued, text-none, text-valued, profile-valued, octet-none, octet-some, octet-valued, raw-valued}
+use Rattle.writing.proofs.Valuing.{number-valued, address-valued, digits-valued, text-none, text-valued, profile-valued, octet-none}
+use Rattle.writing.proofs.Valuing.{octet-some, octet-valued, raw-valued}
 use Rattle.writing.proofs.put_value.Statement.{statement}
 use Rattle.writing.proofs.put_value.Tie as tie
 
@@ -24,7 +25,9 @@ is k = k .before .before .before .pre .0
 size : (k : tie.After-stored) → (let a = k .before .before .before .args in a .size ≡ storedLength current (a .form) (a .count))
 size k = k .before .before .before .pre .1 .0
 
-long : (k : tie.After-stored) → (let a = k .before .before .before .args in length (take (a .size) (a .rest .now)) ≡ storedLength current (a .form) (a .count))
+long :
+    (k : tie.After-stored)
+    → (let a = k .before .before .before .args in length (take (a .size) (a .rest .now)) ≡ storedLength current (a .form) (a .count))
 long k = length-take-le _ _ (k .before .before .before .pre .1 .1 .0) ∙ size k
 
 octets : (k : tie.After-stored) → (let a = k .before .before .before .args in Octets (take (a .size) (a .rest .now)))

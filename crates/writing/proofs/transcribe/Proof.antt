@@ -44,7 +44,9 @@ says : (k : tie.After-known-told Inv-loop μ-loop)
     → k .before .before .before .head-at .result ≡ headedAt (k .before .before .before .before .before .before .before .before .before .args .sheet .now) (k .before .before .before .before .before .loop .place)
 says k = k .before .before .before .head-at .ensures
 
-item : (k : tie.After-known-told Inv-loop μ-loop) → (let f = k .before .number .given .0 in k .before .before .before .head-at .result ≡ Item (f .0) (f .1 .0) (f .1 .1 .0) (f .1 .1 .1 .0))
+item :
+    (k : tie.After-known-told Inv-loop μ-loop)
+    → (let f = k .before .number .given .0 in k .before .before .before .head-at .result ≡ Item (f .0) (f .1 .0) (f .1 .1 .0) (f .1 .1 .1 .0))
 item k = k .before .number .given .1
 
 after : (k : tie.After-known-told Inv-loop μ-loop)
