@@ -57,7 +57,9 @@ second-differs [] m x y h d e = absurd (omega arith)
 second-differs (a ∷ []) m x y h d e = absurd (omega arith)
 second-differs (a ∷ b ∷ t) m x y h d e = rw (eq-eqb a x d, ne-eqb b y e)
 
-pub both-agree : (t m : List ℕ) (x y : ℕ) (r : Bool) → 2 ≤ length t → getD t 0 0 ≡ x → getD t 1 0 ≡ y → r ≡ same (take (length t - 2) (drop 2 t)) m → r ≡ same t (x ∷ y ∷ m)
+pub both-agree :
+    (t m : List ℕ) (x y : ℕ) (r : Bool) → 2 ≤ length t → getD t 0 0 ≡ x → getD t 1 0 ≡ y → r ≡ same (take (length t - 2) (drop 2 t)) m
+    → r ≡ same t (x ∷ y ∷ m)
 both-agree [] m x y r h d e q = absurd (omega arith)
 both-agree (a ∷ []) m x y r h d e q = absurd (omega arith)
 both-agree (a ∷ b ∷ t) m x y r h d e q =

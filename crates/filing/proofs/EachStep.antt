@@ -7,7 +7,8 @@ use native.Mathlib.Omega.{arith}
 use lib.Dec.{T}
 use lib.ListN.{take}
 use Rattle.filing.specs.declared.Step.{Step}
-use Rattle.filing.specs.declared.Step.the-variants.{Take, Read, Return, Look, Create, Write, Sync, Close, Open, Compare, SyncName, LookAgain, Rename, SyncFolder, Abandon, Remove, Withdraw, Filed, Failed, Kept}
+use Rattle.filing.specs.declared.Step.the-variants.{Take, Read, Return, Look, Create, Write, Sync, Close, Open, Compare, SyncName}
+use Rattle.filing.specs.declared.Step.the-variants.{LookAgain, Rename, SyncFolder, Abandon, Remove, Withdraw, Filed, Failed, Kept}
 use Rattle.filing.specs.declared.Answer.{Answer}
 use Rattle.filing.specs.declared.Answer.the-variants.{Well, Badly}
 use Rattle.filing.specs.Steps.{onward, back, nextOf}

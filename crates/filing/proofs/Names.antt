@@ -50,7 +50,8 @@ at-end x = refl
 module _ (x : ℕ) (s : List ℕ) (i : ℕ) (u : Without x s i) where
   pub without-more : i < length s → (getD s i 0 ≡ x → ⊥) → Without x s (i + 1)
   without-more h e =
-      let here : upTo x (drop i s) ≡ suc (upTo x (drop (suc i) s)) = ap (upTo x) (drop-cons s i 0 h) ∙ past-x x (getD s i 0) (drop (suc i) s) e in
+      let here : upTo x (drop i s) ≡ suc (upTo x (drop (suc i) s)) =
+      ap (upTo x) (drop-cons s i 0 h) ∙ past-x x (getD s i 0) (drop (suc i) s) e in
       let same-drop : upTo x (drop (i + 1) s) ≡ upTo x (drop (suc i) s) = ap (λ (k : ℕ). upTo x (drop k s)) (add-one i) in
       record { rest = omega (arith, u .rest) }
 
@@ -181,7 +182,10 @@ module _ (out : List ℕ) where
   temporary-length = simp (length-append, length-drop) (omega (arith, folder-length, folder-within out))
 
   -- its four pieces, one behind the other
-  pub laid-in-pieces : (f : ℕ) (d p q one two three four : List ℕ) → f ≡ folderLength out → length out + 9 ≤ length d → p ≡ partOf out 0 f → one ≡ laidAt 0 p d → two ≡ laidAt f dotGir one → q ≡ partOf out f (length out) → three ≡ laidAt (f + 5) q two → four ≡ laidAt (length out + 5) dotTmp three → four ≡ laidAt 0 (temporaryName out) d
+  pub laid-in-pieces :
+      (f : ℕ) (d p q one two three four : List ℕ) → f ≡ folderLength out → length out + 9 ≤ length d → p ≡ partOf out 0 f
+      → one ≡ laidAt 0 p d → two ≡ laidAt f dotGir one → q ≡ partOf out f (length out) → three ≡ laidAt (f + 5) q two
+      → four ≡ laidAt (length out + 5) dotTmp three → four ≡ laidAt 0 (temporaryName out) d
   unfolding temporaryName
   laid-in-pieces f d p q one two three four ef room ep e1 e2 eq e3 e4 =
       let inside = folder-within out in
@@ -193,7 +197,8 @@ module _ (out : List ℕ) where
       let w1 : one ≡ over p d = e1 ∙ laid-first p d (omega arith) in
       let w2 : two ≡ over (p ++ dotGir) d = e2 ∙ laid-behind p dotGir d one f np w1 (omega arith) in
       let w3 : three ≡ over ((p ++ dotGir) ++ q) d = e3 ∙ laid-behind (p ++ dotGir) q d two (f + 5) npf w2 (omega arith) in
-      let w4 : four ≡ over (((p ++ dotGir) ++ q) ++ dotTmp) d = e4 ∙ laid-behind ((p ++ dotGir) ++ q) dotTmp d three (length out + 5) npq w3 (omega arith) in
+      let w4 : four ≡ over (((p ++ dotGir) ++ q) ++ dotTmp) d =
+      e4 ∙ laid-behind ((p ++ dotGir) ++ q) dotTmp d three (length out + 5) npq w3 (omega arith) in
       let isp : p ≡ take (folderLength out) out = ep ∙ part-front out f ∙ ap (λ (k : ℕ). take k out) ef in
       let same-name : ((p ++ dotGir) ++ q) ++ dotTmp ≡ temporaryName out = simp append-assoc (rw (isp, isq, ef)) in
       w4 ∙ ap (λ (l : List ℕ). over l d) same-name ∙ sym (laid-first (temporaryName out) d (omega (arith, temporary-length)))
@@ -208,9 +213,12 @@ module _ (out : List ℕ) where
       }
 
   -- with room the name stands
-  pub named-whole : (d held : List ℕ) → length out + 9 ≤ length d → held ≡ laidAt 0 (temporaryName out) d → Named out d (length out + 9) held
+  pub named-whole :
+      (d held : List ℕ) → length out + 9 ≤ length d → held ≡ laidAt 0 (temporaryName out) d → Named out d (length out + 9) held
   named-whole d held h e = record { says = rw (le-leb (length out + 9) (length d) h); holds = e }
 
 -- Any two answers that the promise of `temporary` permits are the same, the buffer included.
-pub one-name : (out buffer : List ℕ) (said said′ : ℕ) (held held′ : List ℕ) → Named out buffer said held → Named out buffer said′ held′ → (said ≡ said′) × (held ≡ held′)
+pub one-name :
+    (out buffer : List ℕ) (said said′ : ℕ) (held held′ : List ℕ) → Named out buffer said held → Named out buffer said′ held′
+    → (said ≡ said′) × (held ≡ held′)
 one-name out buffer said said′ held held′ p q = (p .says ∙ sym (q .says), p .holds ∙ sym (q .holds))

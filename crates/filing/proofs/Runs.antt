@@ -13,7 +13,8 @@ use Rattle.filing.specs.declared.Step.the-variants.{Take, Rename, Filed,
 use Rattle.filing.specs.declared.Answer.{Answer}
 use Rattle.filing.specs.declared.Answer.the-variants.{Well, Badly}
 use Rattle.filing.specs.Steps.{onward, back, nextOf}
-use Rattle.filing.specs.Runs.{Taken, _went_, left, goes, Run, comesTo, safely, wholly, clears, onlyClears, Standing, standing, changed, after, nothing}
+use Rattle.filing.specs.Runs.{Taken, _went_, left, goes, Run, comesTo, safely, wholly, clears, onlyClears, Standing, standing}
+use Rattle.filing.specs.Runs.{changed, after, nothing}
 use Rattle.filing.proofs.EachStep.{well, wayTo, standsAt, badly-leads-away, well-before, away-clears, standing-kept, fewer-left}
 
 -- ---- A run in two parts
@@ -41,8 +42,8 @@ on-the-way s (t went Well ∷ l) r w =
 on-the-way s (t went Badly ∷ l) r w =
     absurd (badly-leads-away t (r .1 .0) (on-the-way (back t) l (r .1 .1) w .0))
 
--- A run that takes the rename has taken before it exactly these steps, each answered well and in this order: it has taken IN, read it into a
--- sheet, compared the return trip, seen that nothing stands at OUT, created the temporary file, written it, synced it, closed it, opened
+-- A run that takes the rename has taken before it exactly these steps, each answered well and in this order: it has taken IN, read it
+-- into a sheet, compared the return trip, seen that nothing stands at OUT, created the temporary file, written it, synced it, closed it, opened
 -- it again, compared what is there with the sheet, synced its name, and seen again that nothing stands at OUT.
 pub renamed-only-after : (b c : List Taken) (a : Answer) → Run Take (b ++ Rename went a ∷ c) → b ≡ safely
 renamed-only-after b c a r =

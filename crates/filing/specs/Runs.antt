@@ -5,7 +5,8 @@ use mathlib.Core.Bool.{Bool, true, false, _&&_}
 use mathlib.Core.List.{List, [], _∷_, _++_}
 use lib.Dec.{T, ltb}
 use Rattle.filing.specs.declared.Step.{Step}
-use Rattle.filing.specs.declared.Step.the-variants.{Take, Read, Return, Look, Create, Write, Sync, Close, Open, Compare, SyncName, LookAgain, Rename, SyncFolder, Abandon, Remove, Withdraw, Filed, Failed, Kept}
+use Rattle.filing.specs.declared.Step.the-variants.{Take, Read, Return, Look, Create, Write, Sync, Close, Open, Compare, SyncName}
+use Rattle.filing.specs.declared.Step.the-variants.{LookAgain, Rename, SyncFolder, Abandon, Remove, Withdraw, Filed, Failed, Kept}
 use Rattle.filing.specs.declared.Answer.{Answer}
 use Rattle.filing.specs.declared.Answer.the-variants.{Well, Badly}
 use Rattle.filing.specs.Steps.{nextOf}

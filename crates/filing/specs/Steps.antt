@@ -1,6 +1,7 @@
 -- What follows each step of filing, by its answer. Assumes nothing.
 use Rattle.filing.specs.declared.Step.{Step}
-use Rattle.filing.specs.declared.Step.the-variants.{Take, Read, Return, Look, Create, Write, Sync, Close, Open, Compare, SyncName, LookAgain, Rename, SyncFolder, Abandon, Remove, Withdraw, Filed, Failed, Kept}
+use Rattle.filing.specs.declared.Step.the-variants.{Take, Read, Return, Look, Create, Write, Sync, Close, Open, Compare, SyncName}
+use Rattle.filing.specs.declared.Step.the-variants.{LookAgain, Rename, SyncFolder, Abandon, Remove, Withdraw, Filed, Failed, Kept}
 use Rattle.filing.specs.declared.Answer.{Answer}
 use Rattle.filing.specs.declared.Answer.the-variants.{Well, Badly}
 

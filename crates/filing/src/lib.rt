@@ -261,8 +261,8 @@ pub fn folder_len(path: &[u8]) -> usize
     found
 }
 
-// Writes the temporary file's name over the start of `name` and tells its octets: OUT's folder, `.gir-`, OUT's last name, `.tmp`. Where there
-// is no room, `name` stays as it was and the answer is 0.
+// Writes the temporary file's name over the start of `name` and tells its octets: OUT's folder, `.gir-`, OUT's last name, `.tmp`. Where
+// there is no room, `name` stays as it was and the answer is 0.
 pub fn temporary(out: &[u8], name: &mut [u8]) -> usize
     ensures { λ r. ⌜ Named (now (out .entry)) (now (name .entry)) r (now (name .exit)) ⌝ }
 {

@@ -15,7 +15,10 @@ unfolding refusalLine decimal decimalIn
 refused-10 = refl
 
 -- `refused 3 18446744073709551615`: the largest number of 64 bits
-pub refused-3 : refusalLine 3 18446744073709551615 ≡ 114 ∷ 101 ∷ 102 ∷ 117 ∷ 115 ∷ 101 ∷ 100 ∷ 32 ∷ 51 ∷ 32 ∷ 49 ∷ 56 ∷ 52 ∷ 52 ∷ 54 ∷ 55 ∷ 52 ∷ 52 ∷ 48 ∷ 55 ∷ 51 ∷ 55 ∷ 48 ∷ 57 ∷ 53 ∷ 53 ∷ 49 ∷ 54 ∷ 49 ∷ 53 ∷ 10 ∷ []
+pub refused-3 :
+    refusalLine 3 18446744073709551615
+    ≡ 114 ∷ 101 ∷ 102 ∷ 117 ∷ 115 ∷ 101 ∷ 100 ∷ 32 ∷ 51 ∷ 32
+    ∷ 49 ∷ 56 ∷ 52 ∷ 52 ∷ 54 ∷ 55 ∷ 52 ∷ 52 ∷ 48 ∷ 55 ∷ 51 ∷ 55 ∷ 48 ∷ 57 ∷ 53 ∷ 53 ∷ 49 ∷ 54 ∷ 49 ∷ 53 ∷ 10 ∷ []
 unfolding refusalLine decimal decimalIn
 refused-3 = refl
 
@@ -25,7 +28,9 @@ unfolding entryWith entryDigits octetsOf unpack text
 entry-p2 = refl
 
 -- `00060100` and `00070400` with a space behind each
-pub entries-two : entriesWith 32 (393472 ∷ 459776 ∷ []) ≡ 48 ∷ 48 ∷ 48 ∷ 54 ∷ 48 ∷ 49 ∷ 48 ∷ 48 ∷ 32 ∷ 48 ∷ 48 ∷ 48 ∷ 55 ∷ 48 ∷ 52 ∷ 48 ∷ 48 ∷ 32 ∷ []
+pub entries-two :
+    entriesWith 32 (393472 ∷ 459776 ∷ [])
+    ≡ 48 ∷ 48 ∷ 48 ∷ 54 ∷ 48 ∷ 49 ∷ 48 ∷ 48 ∷ 32 ∷ 48 ∷ 48 ∷ 48 ∷ 55 ∷ 48 ∷ 52 ∷ 48 ∷ 48 ∷ 32 ∷ []
 unfolding entriesWith entryWith entryDigits octetsOf unpack text
 entries-two = refl
 

@@ -63,7 +63,8 @@ pub entered-more : (b : ℕ) (l : List ℕ) (end : ℕ) (d out : List ℕ) (i : 
     → i < end → line ≡ entryWith b (getD l i 0)
     → Laid (9 * i) line out said held → length held ≡ length out → Entered b l end d held (i + 1)
 entered-more b l end d out i line held said u h e laid size =
-    let before : length (entriesWith b (take i l)) ≡ 9 * i = entries-length b (take i l) ∙ omega (arith, length-take-le i l (omega (arith, u .inside))) in
+    let before : length (entriesWith b (take i l)) ≡ 9 * i =
+    entries-length b (take i l) ∙ omega (arith, length-take-le i l (omega (arith, u .inside))) in
     let nine : length line ≡ 9 = ap length e ∙ entry-length b (getD l i 0) in
     let next : entriesWith b (take i l) ++ line ≡ entriesWith b (take (i + 1) l) =
     ap (λ (t : List ℕ). entriesWith b (take i l) ++ t) e ∙ sym (entries-snoc b (take i l) (getD l i 0)) ∙ ap (entriesWith b) (sym (rw (add-one i) (take-suc l i 0 (omega (arith, u .inside))))) in

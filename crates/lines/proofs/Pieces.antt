@@ -43,7 +43,8 @@ pub text-more : (l s : List ℕ) → length l + length s ≤ 50 → followed (te
 unfolding followed textOf padded
 text-more l s h =
     let zeros : List ℕ = replicate 50 0 in
-    let fits : fitsAt (length l) s (over l zeros) ≡ true = room-fits (length l) s (over l zeros) (omega (arith, over-length l zeros (omega arith))) in
+    let fits : fitsAt (length l) s (over l zeros) ≡ true =
+    room-fits (length l) s (over l zeros) (omega (arith, over-length l zeros (omega arith))) in
     let octets = laid-behind l s zeros (over l zeros) (length l) refl refl h in
     let len = ap (λ (b : Bool). cond b (length l + length s) (length l)) fits ∙ sym (length-append l s) in
     λ k. record { octets = octets k; len = len k }
@@ -56,7 +57,8 @@ then l s e f h = f ∙ ap (λ (t : Text). followed t s) e ∙ text-more l s h
 -- its five pieces
 pub refusal-pieces : (n s : ℕ) {none word first between second line : Text} → none ≡ textOf [] → word ≡ followed none refusedWord
     → first ≡ followed word (decimal n)
-    → between ≡ followed first (32 ∷ []) → second ≡ followed between (decimal s) → line ≡ followed second (10 ∷ []) → line ≡ textOf (refusalLine n s)
+    → between ≡ followed first (32 ∷ []) → second ≡ followed between (decimal s) → line ≡ followed second (10 ∷ [])
+    → line ≡ textOf (refusalLine n s)
 unfolding refusalLine
 refusal-pieces n s a b c d e f =
     let w : List ℕ = refusedWord in

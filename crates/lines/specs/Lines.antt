@@ -1,5 +1,5 @@
--- The lines that the programs print: "prints each entry as eight upper-case hexadecimal digits on a line, or one line of "refused", the number and
--- the second number, both in decimal, with one space between". A line ends in one line feed. Assumes nothing.
+-- The lines that the programs print: an entry as eight upper-case hexadecimal digits; a refusal as the word "refused", its number and
+-- its second number in decimal, one space between. A line ends in one line feed. Assumes nothing.
 use mathlib.Core.Path.{_≡_}
 use Prim.Native.Nat.{ℕ, zero, suc, _+_, _-_, _/_, _%_}
 use mathlib.Core.Bool.{cond}

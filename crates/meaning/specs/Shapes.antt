@@ -9,8 +9,8 @@ use Rattle.meaning.specs.Versions.{Version, isHexIn}
 use Rattle.meaning.specs.Jobs.{Context}
 use Rattle.meaning.specs.Framing.{gpp, isPlain}
 
--- "Form 2, four octets", "Form 3", so many digits, "16 hexadecimal digits", a QoS text, "one hexadecimal digit", "any one octet", "one decimal
--- digit"; then the length rules: at least so many octets, "exactly 17", "16 to 128 octets and a multiple of 16"; and no shape
+-- "Form 2, four octets", "Form 3", so many digits, "16 hexadecimal digits", a QoS text, "one hexadecimal digit", "any one octet",
+-- "one decimal digit"; then the length rules: at least so many octets, "exactly 17", "16 to 128 octets and a multiple of 16"; and no shape
 pub data Shape : Type 0 where
   number : Shape
   address : Shape

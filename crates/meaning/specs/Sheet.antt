@@ -10,7 +10,8 @@ use Rattle.meaning.specs.Octets.{Octets, same, numberOf, octetsOf, pack,
 use Rattle.meaning.specs.Versions.{Version, one, termsOf, current, formNamed}
 use Rattle.meaning.specs.Framing.{gpp, isPlain, Attribute, areaOf, carries, Walk, end, broken, next, walk, attributes}
 use Rattle.meaning.specs.Refusals.{Refusal, none, areaRefusal, sheetRefusal}
-use Rattle.meaning.specs.Shapes.{Shape, number, address, digits, hexadecimal, qos, hexDigit, anyOctet, decimalDigit, atLeast, exactly, blocks, free, shapeOf, meets}
+use Rattle.meaning.specs.Shapes.{Shape, number, address, digits, hexadecimal, qos, hexDigit, anyOctet, decimalDigit, atLeast, exactly}
+use Rattle.meaning.specs.Shapes.{blocks, free, shapeOf, meets}
 
 -- "type", of a carried number
 abbrev pub typeOf : ℕ → ℕ

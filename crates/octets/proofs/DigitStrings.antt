@@ -71,7 +71,8 @@ pub packed-digits : (l : List ℕ) → length l ≤ 15 → Halves l → packedOf
 unfolding packedOf eightOf digitsOf
 packed-digits l few h =
     let n : min (length l) 15 ≡ length l = omega arith in
-    let held : heldOf 15 (padded 15 15 l) ≡ padded 15 15 l = rw (padded-length l 15 few) at (held-all (padded 15 15 l)) ∙ halves-modulo (padded 15 15 l) (padded-halves l 15 few h) in
+    let held : heldOf 15 (padded 15 15 l) ≡ padded 15 15 l =
+    rw (padded-length l 15 few) at (held-all (padded 15 15 l)) ∙ halves-modulo (padded 15 15 l) (padded-halves l 15 few h) in
     rw (n, held) (padded-front l 15 few)
 
 -- So it is with the digits that a text holds.

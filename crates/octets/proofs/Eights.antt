@@ -3,16 +3,19 @@ use mathlib.Core.Path.{_≡_, refl, sym, ap, ap₂, _∙_}
 use mathlib.Core.Bool.{Bool, true, false, cond, _&&_}
 use mathlib.Core.List.{List, [], _∷_, _++_, map, append-assoc}
 use Prim.Native.Nat.{ℕ, zero, suc, _+_, _*_, _-_, _/_, _%_, _^_, _<_, _≤_}
-use native.Mathlib.Nat.{suc-mul, pow-suc, pow-succ', pow-le-pow-right, mul-suc, mul-assoc, mul-right-comm, add-mul, add-assoc, add-zero, one-mul, mod-eq-of-lt, mul-div-cancel, mul-mod-left, div-le-self, lt-of-le-of-lt}
+use native.Mathlib.Nat.{suc-mul, pow-suc, pow-succ', pow-le-pow-right, mul-suc, mul-assoc, mul-right-comm, add-mul, add-assoc, add-zero}
+use native.Mathlib.Nat.{one-mul, mod-eq-of-lt, mul-div-cancel, mul-mod-left, div-le-self, lt-of-le-of-lt}
 use native.Mathlib.Numerals.{unary-clauses}
 use native.Mathlib.Omega.{arith}
 use borrow.Author.Tests.{leb-true, leb-false, eq-eqb, ne-eqb}
 use mir.Syntax.{w64}
 use mir.Val.{Fits}
 use lib.Arith.{digits-mod, digits-lt, mod-mul}
-use lib.Bits.{bitAnd, bitOr, bitXor, and-block, or-block, xor-block, and-mask, and-high, and-zero-r, or-zero-l, and-le-l, and-le-r, xor-lt, or-add-and}
+use lib.Bits.{bitAnd, bitOr, bitXor, and-block, or-block, xor-block, and-mask, and-high, and-zero-r, or-zero-l, and-le-l, and-le-r, xor-lt}
+use lib.Bits.{or-add-and}
 use lib.Dec.{T, eqb, leb}
-use lib.ListN.{length, take, drop, replicate, replicate-append-replicate, length-replicate, length-append, length-map, length-drop, take-append-drop}
+use lib.ListN.{length, take, drop, replicate, replicate-append-replicate, length-replicate, length-append, length-map, length-drop}
+use lib.ListN.{take-append-drop}
 use lib.Pow.{pow-add, add-lt-pow, shl-exact, mod-mod-pow}
 use lib.Seq.{length-take-le, drop-drop}
 use Rattle.meaning.specs.Octets.{Octets, all, numberOf, octetsOf, pack}
@@ -255,7 +258,8 @@ value-packed (a ∷ []) e = absurd (omega arith)
 value-packed (a ∷ b ∷ l) e =
     let half : length (pack l) ≡ length l / 2 = pack-length l ∙ omega arith in
     let whole : 2 * (length l / 2) ≡ length l = omega arith in
-    let p : 256 ^ length (pack l) ≡ 16 ^ length l = ap (λ (n : ℕ). 256 ^ n) half ∙ sym (powers 16 2 (length l / 2)) ∙ ap (λ (n : ℕ). 16 ^ n) whole in
+    let p : 256 ^ length (pack l) ≡ 16 ^ length l =
+    ap (λ (n : ℕ). 256 ^ n) half ∙ sym (powers 16 2 (length l / 2)) ∙ ap (λ (n : ℕ). 16 ^ n) whole in
     rw (p, value-packed l (omega arith), pow-suc 16 (length l)) (joined (16 ^ length l) (valueIn 16 l))
   where
     joined : (q w : ℕ) → (a * 16 + b) * q + w ≡ a * (q * 16) + (b * q + w)

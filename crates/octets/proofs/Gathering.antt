@@ -50,7 +50,8 @@ put-before : (l m : List ℕ) (o : ℕ) → length l ≤ 13 → pack (padded 15 
 unfolding numberOf
 put-before l m o h e =
     let seven : length (pack (padded 13 15 l)) ≡ 7 = pack-length (padded 13 15 l) ∙ ap (λ (n : ℕ). (n + 1) / 2) (padded-length l 13 h) in
-    let last : numberOf (pack (padded 15 15 l)) ≡ numberOf (pack (padded 13 15 l)) * 256 + 255 = ap numberOf (padded-more l 13 h) ∙ number-snoc (pack (padded 13 15 l)) 255 in
+    let last : numberOf (pack (padded 15 15 l)) ≡ numberOf (pack (padded 13 15 l)) * 256 + 255 =
+    ap numberOf (padded-more l 13 h) ∙ number-snoc (pack (padded 13 15 l)) 255 in
     let front : numberOf (pack (padded 15 15 l)) / 256 ≡ numberOf (pack (padded 13 15 l)) = omega (arith, last) in
     rw (e, seven, front)
 
@@ -207,7 +208,8 @@ module _ (text : List ℕ) where
     long-gathered e x y ex ey =
         let t = parts (all isDigit (partOf text 0 8)) (all isDigit (partOf text (length text - 8) 8)) (passes _ (ends-test 8 some (omega arith) ∙ e)) in
         let n = values-length text in
-        let first : x ≡ valueIn 16 (take 8 (values text)) = eight-value (partOf text 0 8) a x (part-within text 0 8 (omega arith)) (t .0) ea ex ∙ first-value 8 in
+        let first : x ≡ valueIn 16 (take 8 (values text)) =
+        eight-value (partOf text 0 8) a x (part-within text 0 8 (omega arith)) (t .0) ea ex ∙ first-value 8 in
         let last : y ≡ valueIn 16 (drop (length (values text) - 8) (values text)) = eight-value (partOf text (length text - 8) 8) b y (part-within text (length text - 8) 8 (omega arith)) (t .1) eb ey ∙ last-value 8 some in
         long-filled (values text) (whole-halves e) x y (16 - length text) (omega arith) (omega arith) (omega arith) first last
         ∙ sym (gathered-digits text few e)

@@ -77,8 +77,10 @@ module _ (n w : ℕ) (out : List ℕ) (k rest : ℕ) (u : Ended n w out k rest) 
       let i-is : w - (k + 1) ≡ i = omega arith in
       let next : suc i ≡ w - k = omega arith in
       let inside : i < length out = omega (arith, u .kept) in
-      let here : getD (set out i (rest % 256)) i 0 ≡ n / 256 ^ k % 256 = getD-set-same out i (rest % 256) 0 inside ∙ ap (λ (m : ℕ). m % 256) (u .before) in
-      let later : drop (suc i) (set out i (rest % 256)) ≡ octetsOf k n = drop-set-lt (suc i) out i (rest % 256) (omega arith) ∙ rw next (u .behind) in
+      let here : getD (set out i (rest % 256)) i 0 ≡ n / 256 ^ k % 256 =
+      getD-set-same out i (rest % 256) 0 inside ∙ ap (λ (m : ℕ). m % 256) (u .before) in
+      let later : drop (suc i) (set out i (rest % 256)) ≡ octetsOf k n =
+      drop-set-lt (suc i) out i (rest % 256) (omega arith) ∙ rw next (u .behind) in
       record {
         within = omega arith;
         kept = length-set out i (rest % 256) ∙ u .kept;

@@ -139,7 +139,8 @@ packed-decimals c s e =
 packed-two : (c x : ℕ) (s : List ℕ) → packedDigits (suc (suc c)) (x ∷ s) ≡ (leb (x / 16) 9 && leb (x % 16) 9) && packedDigits c s
 unfolding packedDigits text unpack pack
 packed-two c x s =
-    let size : eqb (suc (length s)) (packedLength (suc (suc c))) ≡ eqb (length s) (packedLength c) = eqb-both (suc (length s)) (packedLength (suc (suc c))) (length s) (packedLength c) (λ e. omega arith) (λ e. omega arith) in
+    let size : eqb (suc (length s)) (packedLength (suc (suc c))) ≡ eqb (length s) (packedLength c) =
+    eqb-both (suc (length s)) (packedLength (suc (suc c))) (length s) (packedLength c) (λ e. omega arith) (λ e. omega arith) in
     let octet : eqb (x / 16 * 16 + x % 16) x ≡ true = eq-eqb (x / 16 * 16 + x % 16) x (omega arith) in
     rw (size, octet, decimal-text (x / 16), decimal-text (x % 16)) (order (eqb (length s) (packedLength c)) (leb (x / 16) 9) (leb (x % 16) 9) (all isDigit (text (unpack c s))) (same (pack (unpack c s)) s))
   where
@@ -154,7 +155,8 @@ packed-two c x s =
 packed-one : (x : ℕ) → packedDigits 1 (x ∷ []) ≡ leb (x / 16) 9 && eqb (x % 16) 15
 unfolding packedDigits text unpack pack
 packed-one x =
-    let octet : eqb (x / 16 * 16 + 15) x ≡ eqb (x % 16) 15 = eqb-both (x / 16 * 16 + 15) x (x % 16) 15 (λ e. omega arith) (λ e. omega arith) in
+    let octet : eqb (x / 16 * 16 + 15) x ≡ eqb (x % 16) 15 =
+    eqb-both (x / 16 * 16 + 15) x (x % 16) 15 (λ e. omega arith) (λ e. omega arith) in
     rw (octet, decimal-text (x / 16), and-true (leb (x / 16) 9), and-true (eqb (x % 16) 15))
 
 packed-zero : packedDigits 0 [] ≡ true

@@ -10,7 +10,8 @@ use lib.ListN.{getD}
 use borrow.Author.Tests.{eq-eqb, ne-eqb, eqb-true, le-ltb, lt-leb, ltb-true, ltb-false}
 use types.Run.{OneOf}
 use Rattle.meaning.specs.Octets.{isIn}
-use Rattle.meaning.specs.Shapes.{Shape, number, address, digits, hexadecimal, qos, hexDigit, anyOctet, decimalDigit, atLeast, exactly, blocks, free, plainShape, gppShape, shapeOf}
+use Rattle.meaning.specs.Shapes.{Shape, number, address, digits, hexadecimal, qos, hexDigit, anyOctet, decimalDigit, atLeast, exactly}
+use Rattle.meaning.specs.Shapes.{blocks, free, plainShape, gppShape, shapeOf}
 use Rattle.meaning.specs.Sheet.{formOf}
 use Rattle.meaning.proofs.Tests.{below, below-at}
 use Rattle.shape.specs.Codes.{codeOf, shapeBy}
@@ -175,7 +176,8 @@ in-shape = in-arm (ruleArms ++ formArms) refl
 pub shape-other : (n : ℕ) → PastArms (Unit {0}) n (numbersOf (ruleArms ++ formArms)) → shapeOf n ≡ free
 unfolding shapeOf plainShape gppShape codeOf shapeBy
 shape-other n p =
-    let code-is : codeOf (shapeOf n) ≡ 0 = none-other (λ k. codeOf (shapeOf k)) (numbersOf (ruleArms ++ formArms)) 275 tt (λ k h. rw (above k h)) n p in
+    let code-is : codeOf (shapeOf n) ≡ 0 =
+    none-other (λ k. codeOf (shapeOf k)) (numbersOf (ruleArms ++ formArms)) 275 tt (λ k h. rw (above k h)) n p in
     sym (shape-back n) ∙ ap shapeBy code-is
 
 -- ---- A test of the shapes of numbers

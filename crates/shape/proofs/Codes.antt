@@ -7,7 +7,8 @@ use Prim.Native.Nat.{ℕ, _-_, _/_, _<_, _≤_}
 use lib.Dec.{T, eqb, leb}
 use borrow.Author.Tests.{lt-ltb, le-ltb, ne-eqb, eqb-true}
 use types.Run.{OneOf}
-use Rattle.meaning.specs.Shapes.{Shape, number, address, digits, hexadecimal, qos, hexDigit, anyOctet, decimalDigit, atLeast, exactly, blocks, free, plainShape, gppShape, shapeOf}
+use Rattle.meaning.specs.Shapes.{Shape, number, address, digits, hexadecimal, qos, hexDigit, anyOctet, decimalDigit, atLeast, exactly}
+use Rattle.meaning.specs.Shapes.{blocks, free, plainShape, gppShape, shapeOf}
 use Rattle.meaning.specs.Sheet.{formOf}
 use Rattle.meaning.proofs.Tests.{parts}
 use Rattle.shape.specs.Codes.{codeOf, shapes, shapeAmong, shapeBy}

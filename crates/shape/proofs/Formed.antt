@@ -12,7 +12,8 @@ use lib.ListN.{length, drop, getD, length-drop}
 use Rattle.meaning.specs.Versions.{current}
 use Rattle.meaning.specs.Octets.{between, all, isDigit, isHex, digitValue, values, pack, packedLength}
 use Rattle.meaning.specs.Framing.{isPlain}
-use Rattle.meaning.specs.Shapes.{Shape, number, address, digits, hexadecimal, qos, hexDigit, anyOctet, decimalDigit, atLeast, exactly, blocks, free, shapeOf, release, meets}
+use Rattle.meaning.specs.Shapes.{Shape, number, address, digits, hexadecimal, qos, hexDigit, anyOctet, decimalDigit, atLeast, exactly}
+use Rattle.meaning.specs.Shapes.{blocks, free, shapeOf, release, meets}
 use Rattle.meaning.specs.Sheet.{formOf, storedOf, decodes, form, stored}
 use Rattle.meaning.proofs.Tests.{parts, either}
 use Rattle.meaning.proofs.Packing.{Hexes, digits-hexes, values-halves, packed-values}
@@ -116,7 +117,9 @@ one-octet [] l = absurd (omega arith)
 one-octet (x ∷ []) l = refl
 one-octet (x ∷ y ∷ v) l = absurd (omega arith)
 
-met-formed : (s : Shape) (v : List ℕ) → T (leb 2 (formOf s)) → T (meets current s v) → T (fifteen s) → Formed (codeOf s) (formOf s) v (storedOf current s v)
+met-formed :
+    (s : Shape) (v : List ℕ) → T (leb 2 (formOf s)) → T (meets current s v) → T (fifteen s)
+    → Formed (codeOf s) (formOf s) v (storedOf current s v)
 unfolding formOf meets storedOf codeOf
 met-formed number v f t d = record { long = eqb→eq (length v) 4 t; kept = refl }
 met-formed address v f t d = record { long = eqb→eq (length v) 4 t; kept = refl }

@@ -28,7 +28,8 @@ use Rattle.shape.specs.Codes.{codeOf, shapeBy}
 use Rattle.shape.specs.Items.{valueBy, digitsBy, undigited, rawItem, itemFor, itemAt}
 use Rattle.shape.proofs.Codes.{fifteen, at-most-fifteen}
 use Rattle.shape.proofs.Meeting.{digits-all}
-use Rattle.shape.proofs.Formed.{One, Formed, formed-as, form-own, form-raw, own-form, form-without, form-missed, form-met, text-size, profile-size}
+use Rattle.shape.proofs.Formed.{One, Formed, formed-as, form-own, form-raw, own-form, form-without, form-missed, form-met, text-size}
+use Rattle.shape.proofs.Formed.{profile-size}
 
 -- a value that stands as it is is stored so
 stored-raw : (b : Bool) (c : ℕ) (v s : List ℕ) → Formed c (cond b 0 1) v s → s ≡ v
@@ -43,7 +44,9 @@ raw-value false v s p = refl
 -- v are the octets of the part p
 module _ (n : ℕ) (v : List ℕ) (p : Part) where
   -- an item without digits, made of its form, its count and its value
-  undigited-is : (f c : ℕ) (x : Value) → form current n v ≡ f → eqb f 4 ≡ false → length (stored current n v) ≡ c → x ≡ valueBy f v (stored current n v) p
+  undigited-is :
+      (f c : ℕ) (x : Value) → form current n v ≡ f → eqb f 4 ≡ false → length (stored current n v) ≡ c
+      → x ≡ valueBy f v (stored current n v) p
       → undigited n f c x ≡ itemFor n v p
   unfolding undigited itemFor count digitsBy
   undigited-is f c x fs e cs xs = rw (fs, e, cs, xs)
@@ -109,7 +112,8 @@ module _ (n : ℕ) (v : List ℕ) (p : Part) where
         → _≡_ {A = Item} (record { number = n; form = 4; count = length v; value = is.Digits; digits = got }) (itemFor n v p)
     unfolding itemFor count valueBy digitsBy formOf
     item-digits z =
-        let f : form current n v ≡ 4 = form-own n v (digits a b) shape-is (omega arith) (sym (digits-all v a b some few) ∙ some-meet _ refl z) in
+        let f : form current n v ≡ 4 =
+        form-own n v (digits a b) shape-is (omega arith) (sym (digits-all v a b some few) ∙ some-meet _ refl z) in
         let s = formed-as n v 4 f in
         rw (f, got-is, got-digits v (s .some) (s .few) (s .decimal))
 

@@ -82,7 +82,9 @@ stored-as-meant area n p o =
 
 -- The octets of an item are those of the sheet's item of the value.
 pub item-as-meant : (area : List ℕ) (number : ℕ) (value : Part) → Octets area
-    → typeOf (itemAt area number value .number) ∷ subOf (itemAt area number value .number) ∷ itemAt area number value .form ∷ itemAt area number value .count ∷ storedIn area (itemAt area number value) ≡ item current number (partOf area (value .start) (value .len))
+    → (let i = itemAt area number value in
+    typeOf (i .number) ∷ subOf (i .number) ∷ i .form ∷ i .count ∷ storedIn area i
+    ≡ item current number (partOf area (value .start) (value .len)))
 unfolding item itemAt itemFor
 item-as-meant area n p o =
     let v : List ℕ = partOf area (p .start) (p .len) in

@@ -4,7 +4,8 @@ use Prim.Native.Nat.{ℕ}
 use mathlib.Core.Bool.{cond}
 use mathlib.Core.List.{List, [], _∷_}
 use lib.Dec.{eqb}
-use Rattle.meaning.specs.Shapes.{Shape, number, address, digits, hexadecimal, qos, hexDigit, anyOctet, decimalDigit, atLeast, exactly, blocks, free}
+use Rattle.meaning.specs.Shapes.{Shape, number, address, digits, hexadecimal, qos, hexDigit, anyOctet, decimalDigit, atLeast, exactly}
+use Rattle.meaning.specs.Shapes.{blocks, free}
 
 -- the code of a shape
 unfoldable pub codeOf : Shape → ℕ
@@ -24,7 +25,8 @@ codeOf free = 0
 -- the shapes that the numbers have
 abbrev pub shapes : List Shape
 shapes =
-    atLeast 1 ∷ atLeast 5 ∷ exactly 17 ∷ blocks ∷ number ∷ address ∷ digits 1 15 ∷ digits 5 6 ∷ hexadecimal ∷ qos ∷ hexDigit ∷ anyOctet ∷ decimalDigit ∷ []
+    atLeast 1 ∷ atLeast 5 ∷ exactly 17 ∷ blocks ∷ number ∷ address ∷ digits 1 15 ∷ digits 5 6
+    ∷ hexadecimal ∷ qos ∷ hexDigit ∷ anyOctet ∷ decimalDigit ∷ []
 
 -- the one of some shapes that has the code, and no shape where none has it
 abbrev pub shapeAmong : List Shape → ℕ → Shape

@@ -10,7 +10,8 @@ use Rattle.gir_batch.proofs.check_within.Tie as tie
 
 slice-aggregate-check : tie.Need-slice-aggregate-check
 slice-aggregate-check c =
-    let h : c .before .least .result ≤ length (c .before .before .before .before .args .list .now) = omega (arith, c .before .least .ensures) in
+    let h : c .before .least .result ≤ length (c .before .before .before .before .args .list .now) =
+    omega (arith, c .before .least .ensures) in
     sym (length-take-le _ _ h)
 
 pub check-within-spec : {M : Type 1} → statement M

@@ -10,7 +10,8 @@ use Rattle.gir_batch.proofs.read_within.Tie as tie
 
 slice-aggregate-read : tie.Need-slice-aggregate-read
 slice-aggregate-read c =
-    let h : c .before .least .result ≤ length (c .before .before .before .before .args .sheet .now) = omega (arith, c .before .least .ensures) in
+    let h : c .before .least .result ≤ length (c .before .before .before .before .args .sheet .now) =
+    omega (arith, c .before .least .ensures) in
     sym (length-take-le _ _ h)
 
 pub read-within-spec : {M : Type 1} → statement M

@@ -10,7 +10,8 @@ use Rattle.gir_batch.proofs.write_within.Tie as tie
 
 slice-aggregate-write : tie.Need-slice-aggregate-write
 slice-aggregate-write c =
-    let h : c .before .least .result ≤ length (c .before .before .before .before .args .area .now) = omega (arith, c .before .least .ensures) in
+    let h : c .before .least .result ≤ length (c .before .before .before .before .args .area .now) =
+    omega (arith, c .before .least .ensures) in
     sym (length-take-le _ _ h)
 
 pub write-within-spec : {M : Type 1} → statement M

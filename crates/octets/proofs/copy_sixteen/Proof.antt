@@ -12,9 +12,12 @@ use Rattle.octets.proofs.copy_sixteen.Statement.{statement}
 use Rattle.octets.proofs.copy_sixteen.Tie as tie
 
 -- there are sixteen octets, and room for them
-room : (c : tie.Then1) → let a = c .before .before .before .before .args in (16 ≤ length (a .src .now)) × (a .at + 16 ≤ length (a .buf .now))
+room :
+    (c : tie.Then1)
+    → let a = c .before .before .before .before .args in (16 ≤ length (a .src .now)) × (a .at + 16 ≤ length (a .buf .now))
 room c =
-    let t = parts (leb 16 (length (c .before .before .before .before .args .src .now))) (c .before .fits2 .result) (passes _ (c .if1 .taken)) in
+    let t =
+    parts (leb 16 (length (c .before .before .before .before .args .src .now))) (c .before .fits2 .result) (passes _ (c .if1 .taken)) in
     (leb-true _ _ (is-true _ (t .0)), leb-true _ _ (sym (c .before .fits2 .ensures) ∙ is-true _ (t .1)))
 
 eight-of-requires : tie.Need-eight-of-requires

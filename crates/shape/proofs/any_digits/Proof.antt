@@ -13,7 +13,8 @@ digits-item-requires : tie.Need-digits-item-requires
 digits-item-requires c κs =
     let s = c .before .before .before in
     let long : Bool = eqb (s .args .number) 31 || eqb (s .args .number) 257 in
-    let least : c .before .if1 .digits-item ≡ cond long 1 5 = ⊎-elim (λ w. w .1 ∙ rw (w .0 .taken)) (λ w. w .1 ∙ rw (w .0 .left)) (c .before .if1 .came) in
+    let least : c .before .if1 .digits-item ≡ cond long 1 5 =
+    ⊎-elim (λ w. w .1 ∙ rw (w .0 .taken)) (λ w. w .1 ∙ rw (w .0 .left)) (c .before .if1 .came) in
     let most : c .if2 .digits-item ≡ cond long 15 6 = ⊎-elim (λ w. w .1 ∙ rw (w .0 .taken)) (λ w. w .1 ∙ rw (w .0 .left)) (c .if2 .came) in
     in-digits _ (s .pre) ∙ ap₂ digits (sym least) (sym most)
 
