@@ -65,7 +65,8 @@ module _ (kind flags : ℕ) (area : List ℕ) (r : Arrival) (says : r ≡ arriva
     where
       go :
           (k f t : Bool) → Refused refused ≡ arrivalFrom (first (first (when (not k) 1 0) (when (not f) 2 0)) (when t 3 (length area)))
-          → first (first (when (not k) 1 0) (when (not f) 2 0)) (first (when t 3 (length area)) (fault (walk area))) ≡ refusal (refused .number) (refused .second)
+          → first (first (when (not k) 1 0) (when (not f) 2 0)) (first (when t 3 (length area)) (fault (walk area)))
+          ≡ refusal (refused .number) (refused .second)
       go false f t e = cc
       go true false t e = cc
       go true true true e = cc

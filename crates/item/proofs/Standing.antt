@@ -150,7 +150,8 @@ short-carried n v f h = go (isPlain n)
     plain = rw (ne-eqb n 26 (λ e. no-form-26 (subst (λ (k : ℕ). T (leb 2 (formOf (shapeOf k)))) e f)))
 
     go : (b : Bool)
-        → T (cond b (leb (length v) 253 && (not (eqb n 26) || (leb 5 (length v) && not (eqb (numberOf (take 4 v)) vendor3gpp)))) (leb (length v) 246))
+        → T (cond b (leb (length v) 253 && (not (eqb n 26) || (leb 5 (length v) && not (eqb (numberOf (take 4 v)) vendor3gpp))))
+        (leb (length v) 246))
     go true = rw (le-leb (length v) 253 (omega arith), plain) tt
     go false = passes _ (le-leb (length v) 246 h)
 
@@ -201,7 +202,8 @@ module _ (t s f c : ℕ) (st : List ℕ) (octet : t < 256) (long : length st ≡
       both (eqb (subOf numbered) s) _ (passes _ (eq-eqb (subOf numbered) s (h .sub-is))) (go h (either-way current numbered stood))
     where
       go : Headed numbered stood t s f c st → Decoded current numbered stood ⊎ Plainly current numbered stood
-          → T (eqb (formOf (shapeOf numbered)) f && (leb 2 (formOf (shapeOf numbered)) && (meets current (shapeOf numbered) stood && same (storedOf current (shapeOf numbered) stood) st)))
+          → T (eqb (formOf (shapeOf numbered)) f && (leb 2 (formOf (shapeOf numbered))
+          && (meets current (shapeOf numbered) stood && same (storedOf current (shapeOf numbered) stood) st)))
       go h (inl d) =
           both (eqb (formOf (shapeOf numbered)) f) _ (passes _ (eq-eqb (formOf (shapeOf numbered)) f (sym (d .form-is) ∙ h .form-is)))
           (both (leb 2 (formOf (shapeOf numbered))) _ (d .own)

@@ -12,5 +12,9 @@ use Rattle.meaning.specs.Listing.{chosen, view, brokenBy, atAttribute, a
 use Rattle.meaning.specs.Answers.{readAnswer, checkAnswer, writeAnswer}
 
 unfoldable pub computing : Unit {0}
-unfolding numberOf octetsOf pack unpack values text isKind areFlags walk walkAt from found vendorFound oneSub attributes fault kindRefusal framingRefusal areaRefusal areaOrder sheetRefusal shapeOf plainShape gppShape meets allowed formOf storedOf valueOf decodes form stored count item itemsOf sheetHead sheetWith sheetAs attributeOctets areaOf carries judgedItem wholeItem entered items itemsIn areaIn marked judged notPermitted mandatory conditional entry misses offends onceOnly barred chosen view brokenBy atAttribute along wants atEnd breaches readAnswer checkAnswer listOf writeAnswer
+unfolding numberOf octetsOf pack unpack values text isKind areFlags walk walkAt from found vendorFound oneSub attributes fault
+    kindRefusal framingRefusal areaRefusal areaOrder sheetRefusal shapeOf plainShape gppShape meets allowed formOf storedOf valueOf
+    decodes form stored count item itemsOf sheetHead sheetWith sheetAs attributeOctets areaOf carries judgedItem wholeItem entered items
+    itemsIn areaIn marked judged notPermitted mandatory conditional entry misses offends onceOnly barred chosen view brokenBy
+    atAttribute along wants atEnd breaches readAnswer checkAnswer listOf writeAnswer
 computing = tt

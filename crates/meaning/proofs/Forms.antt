@@ -264,7 +264,8 @@ announced ver n v = rw (form-named ver (form ver n v) (form-range ver n v)) (go 
   where
     go :
         (b : Bool) → eqb (form ver n v) 4 ≡ b → Decoded ver n v ⊎ Plainly ver n v
-        → cond b (packedLength (cond b (length v) (length (stored ver n v)))) (cond b (length v) (length (stored ver n v))) ≡ length (stored ver n v)
+        → cond b (packedLength (cond b (length v) (length (stored ver n v)))) (cond b (length v) (length (stored ver n v)))
+        ≡ length (stored ver n v)
     go false e w = refl
     go true e (inl d) =
         sym (ap length (d .stored-is) ∙ digits-stored ver (shapeOf n) v (sym (d .form-is) ∙ eqb-true (form ver n v) 4 e))

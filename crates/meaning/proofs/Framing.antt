@@ -163,7 +163,8 @@ vendor-found n r o two octet fits = go (ltb n 7) (eqb (numberOf (take 4 r)) vend
     go :
         (a b x y z : Bool) → ltb n 7 ≡ a → eqb (numberOf (take 4 r)) vendor3gpp ≡ b → leb 2 (getD r 5 0) ≡ x → leb (getD r 5 0) 248 ≡ y
         → eqb (getD r 5 0) (n - 6) ≡ z
-        → FoundIn (26 ∷ n ∷ r) (cond a (refused 7) (cond b (cond (x && (y && z)) (attribute (gpp (getD r 4 0)) 8 n) (refused 8)) (attribute 26 2 n)))
+        → FoundIn (26 ∷ n ∷ r) (cond a (refused 7) (cond b (cond (x && (y && z)) (attribute (gpp (getD r 4 0)) 8 n) (refused 8))
+        (attribute 26 2 n)))
     go true b x y z ea eb ex ey ez = tt
     go false false x y z ea eb ex ey ez = other-framed n r two octet fits (ltb-false n 7 ea) (eqb-false _ vendor3gpp eb)
     go false true false y z ea eb ex ey ez = tt

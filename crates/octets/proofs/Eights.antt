@@ -113,7 +113,8 @@ sum-block k a b r s h g = rw (add-mul a b (2 ^ k)) (omega arith)
 
 -- So eight octets are tested at once.
 pub eight-below : (d : ℕ) → d < 256 ^ 8
-    → eqb (bitOr (bitAnd d 0xF0F0F0F0F0F0F0F0) (bitAnd (bitAnd d 0x0F0F0F0F0F0F0F0F + 0x0606060606060606) 0xF0F0F0F0F0F0F0F0)) 0 ≡ belowTen (octetsOf 8 d)
+    → eqb (bitOr (bitAnd d 0xF0F0F0F0F0F0F0F0) (bitAnd (bitAnd d 0x0F0F0F0F0F0F0F0F + 0x0606060606060606) 0xF0F0F0F0F0F0F0F0)) 0
+    ≡ belowTen (octetsOf 8 d)
 unfolding numberOf octetsOf
 eight-below d h =
     let l : List ℕ = octetsOf 8 d in
@@ -333,13 +334,18 @@ pub low-fits : (x k : ℕ) → k ≤ 8 → Fits w64 (x % 18446744073709551616 % 
 low-fits x k h = omega (arith, one-shifted k h, pow-le-pow-right {n = 16} (omega arith) {i = k} {j = 8} h)
 
 long-shifted : (a b k : ℕ) → a < 16 ^ 8 → k ≤ 8
-    → a * 4294967296 % 18446744073709551616 + (b * 2 ^ (4 * k) % 18446744073709551616 % 4294967296 + (1 * 2 ^ (4 * k) % 18446744073709551616 - 1)) ≡ a * 16 ^ 8 + (b * 16 ^ k % 16 ^ 8 + (16 ^ k - 1))
+    → a * 4294967296 % 18446744073709551616
+    + (b * 2 ^ (4 * k) % 18446744073709551616 % 4294967296 + (1 * 2 ^ (4 * k) % 18446744073709551616 - 1))
+    ≡ a * 16 ^ 8 + (b * 16 ^ k % 16 ^ 8 + (16 ^ k - 1))
 long-shifted a b k ha h =
     ap₂ (λ (x y : ℕ). x + y) (shl-exact 32 32 64 ha (omega arith))
     (ap₂ (λ (x y : ℕ). x + (y - 1)) (mod-mod-pow (b * 2 ^ (4 * k)) 32 32 ∙ ap (λ (p : ℕ). b * p % 4294967296) (powers 2 4 k)) (one-shifted k h))
 
 short-shifted : (a b k : ℕ) → a < 16 ^ 4 → b < 16 ^ 4 → k ≤ 4
-    → (a * 65536 + b) / 65536 * 281474976710656 % 18446744073709551616 + (((a * 65536 + b) * 2 ^ (4 * k) % 18446744073709551616 % 65536 + (1 * 2 ^ (4 * k) % 18446744073709551616 - 1)) * 4294967296 % 18446744073709551616 + 4294967295) ≡ (a * 16 ^ 4 + (b * 16 ^ k % 16 ^ 4 + (16 ^ k - 1))) * 16 ^ 8 + (16 ^ 8 - 1)
+    → (a * 65536 + b) / 65536 * 281474976710656 % 18446744073709551616
+    + (((a * 65536 + b) * 2 ^ (4 * k) % 18446744073709551616 % 65536 + (1 * 2 ^ (4 * k) % 18446744073709551616 - 1))
+    * 4294967296 % 18446744073709551616 + 4294967295)
+    ≡ (a * 16 ^ 4 + (b * 16 ^ k % 16 ^ 4 + (16 ^ k - 1))) * 16 ^ 8 + (16 ^ 8 - 1)
 short-shifted a b k ha hb h =
     let low : (a * 65536 + b) * 2 ^ (4 * k) % 18446744073709551616 % 65536 ≡ b * 16 ^ k % 65536 =
     mod-mod-pow ((a * 65536 + b) * 2 ^ (4 * k)) 48 16 ∙ ap (λ (p : ℕ). (a * 65536 + b) * p % 65536) (powers 2 4 k)
@@ -353,7 +359,9 @@ module _ (v : List ℕ) (h : Halves v) where
   -- the first eight of 8 to 15, and the last eight
   pub long-filled : (a b k : ℕ) → 8 ≤ length v → length v ≤ 15 → length v + k ≡ 16 → a ≡ valueIn 16 (take 8 v)
       → b ≡ valueIn 16 (drop (length v - 8) v)
-      → a * 4294967296 % 18446744073709551616 + (b * 2 ^ (4 * k) % 18446744073709551616 % 4294967296 + (1 * 2 ^ (4 * k) % 18446744073709551616 - 1)) ≡ numberOf (pack (padded 15 15 v))
+      → a * 4294967296 % 18446744073709551616
+      + (b * 2 ^ (4 * k) % 18446744073709551616 % 4294967296 + (1 * 2 ^ (4 * k) % 18446744073709551616 - 1))
+      ≡ numberOf (pack (padded 15 15 v))
   long-filled a b k some few e ea eb =
       let size : length (take 8 v) ≡ 8 = length-take-le 8 v some in
       let below : a < 16 ^ 8 = rw ea (rw size at (value-fits (take 8 v) (halves-take 8 v h))) in
@@ -366,7 +374,10 @@ module _ (v : List ℕ) (h : Halves v) where
   -- the first four of 4 to 7, and the last four
   pub short-filled : (a b x k : ℕ) → 4 ≤ length v → length v ≤ 7 → length v + k ≡ 8 → a ≡ valueIn 16 (take 4 v)
       → b ≡ valueIn 16 (drop (length v - 4) v) → x ≡ a * 65536 + b
-      → x / 65536 * 281474976710656 % 18446744073709551616 + ((x * 2 ^ (4 * k) % 18446744073709551616 % 65536 + (1 * 2 ^ (4 * k) % 18446744073709551616 - 1)) * 4294967296 % 18446744073709551616 + 4294967295) ≡ numberOf (pack (padded 15 15 v))
+      → x / 65536 * 281474976710656 % 18446744073709551616
+      + ((x * 2 ^ (4 * k) % 18446744073709551616 % 65536 + (1 * 2 ^ (4 * k) % 18446744073709551616 - 1))
+      * 4294967296 % 18446744073709551616 + 4294967295)
+      ≡ numberOf (pack (padded 15 15 v))
   short-filled a b x k some few e ea eb ex =
       let n : ℕ = length v - 4 in
       let size : length (take 4 v) ≡ 4 = length-take-le 4 v some in

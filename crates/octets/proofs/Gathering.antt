@@ -204,7 +204,10 @@ module _ (text : List ℕ) where
         or-none p q ∙ ap₂ _&&_ (ep ∙ ap belowTen ea ∙ digits-turned (partOf text 0 8)) (eq ∙ ap belowTen eb ∙ digits-turned (partOf text (length text - 8) 8)) ∙ ends-test 8 some (omega arith)
 
     pub long-gathered : all isDigit text ≡ true → (x y : ℕ) → x ≡ numberOf (pack (octetsOf 8 a)) → y ≡ numberOf (pack (octetsOf 8 b))
-        → x * 4294967296 % 18446744073709551616 + (y * 2 ^ (4 * (16 - length text)) % 18446744073709551616 % 4294967296 + (1 * 2 ^ (4 * (16 - length text)) % 18446744073709551616 - 1)) ≡ gatheredOf text
+        → x * 4294967296 % 18446744073709551616
+        + (y * 2 ^ (4 * (16 - length text)) % 18446744073709551616 % 4294967296
+        + (1 * 2 ^ (4 * (16 - length text)) % 18446744073709551616 - 1))
+        ≡ gatheredOf text
     long-gathered e x y ex ey =
         let t = parts (all isDigit (partOf text 0 8)) (all isDigit (partOf text (length text - 8) 8)) (passes _ (ends-test 8 some (omega arith) ∙ e)) in
         let n = values-length text in
@@ -237,7 +240,10 @@ module _ (text : List ℕ) where
     short-test = ap belowTen fours-turned ∙ digits-turned (partOf text 0 4 ++ partOf text (length text - 4) 4) ∙ all-append isDigit (partOf text 0 4) (partOf text (length text - 4) 4) ∙ ends-test 4 some (omega arith)
 
     pub short-gathered : all isDigit text ≡ true → (x : ℕ) → x ≡ numberOf (pack (octetsOf 8 d))
-        → x / 65536 * 281474976710656 % 18446744073709551616 + ((x * 2 ^ (4 * (8 - length text)) % 18446744073709551616 % 65536 + (1 * 2 ^ (4 * (8 - length text)) % 18446744073709551616 - 1)) * 4294967296 % 18446744073709551616 + 4294967295) ≡ gatheredOf text
+        → x / 65536 * 281474976710656 % 18446744073709551616
+        + ((x * 2 ^ (4 * (8 - length text)) % 18446744073709551616 % 65536 + (1 * 2 ^ (4 * (8 - length text)) % 18446744073709551616 - 1))
+        * 4294967296 % 18446744073709551616 + 4294967295)
+        ≡ gatheredOf text
     unfolding values
     short-gathered e x ex =
         let k : List ℕ = partOf text 0 4 in

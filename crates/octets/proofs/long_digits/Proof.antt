@@ -14,7 +14,8 @@ use Rattle.octets.proofs.long_digits.Statement.{statement}
 use Rattle.octets.proofs.long_digits.Tie as tie
 
 test : (c : tie.After-beyond2)
-    → eqb (bitOr (c .before .beyond .result) (c .beyond2 .result)) 0 ≡ all isDigit (c .before .before .before .before .before .before .before .args .text .now)
+    → eqb (bitOr (c .before .beyond .result) (c .beyond2 .result)) 0
+    ≡ all isDigit (c .before .before .before .before .before .before .before .args .text .now)
 test c =
     long-test (c .before .before .before .before .before .before .before .args .text .now) _ _ (search needs) (search needs) (c .before .before .before .before .turned .ensures ∙ ap turnedOf (c .before .before .before .before .before .eight-at .ensures)) (c .before .before .turned2 .ensures ∙ ap turnedOf (c .before .before .before .eight-at2 .ensures)) (c .before .beyond .result) (c .beyond2 .result) (c .before .beyond .ensures) (c .beyond2 .ensures)
 

@@ -16,7 +16,9 @@ size : (c : tie.After-packed-len) → c .packed-len .result ≡ length (pack (ha
 size c = c .packed-len .ensures ∙ sym (halves-packed (c .before .before .before .args .text .now))
 
 room : (c : tie.Else1)
-    → c .before .before .before .before .before .args .at + packedLength (length (c .before .before .before .before .before .args .text .now)) ≤ length (c .before .before .before .before .before .args .buf .now)
+    → c .before .before .before .before .before .args .at
+    + packedLength (length (c .before .before .before .before .before .args .text .now))
+    ≤ length (c .before .before .before .before .before .args .buf .now)
 room c =
     let a = c .before .before .before .before .before .args in
     let r = laid-room (a .at) (pack (halves (a .text .now))) (a .buf .now) _ _ (size (c .before .before)) (c .before .fits2 .ensures) (not-false _ (c .if1 .left)) in

@@ -16,7 +16,8 @@ size : (c : tie.After-half-count)
 size c = let a = c .before .before .before .args in c .half-count .ensures ∙ sym (unpacked-length (a .count) (a .s .now))
 
 room : (c : tie.Else1)
-    → c .before .before .before .before .before .args .at + c .before .before .half-count .result ≤ length (c .before .before .before .before .before .args .buf .now)
+    → c .before .before .before .before .before .args .at + c .before .before .half-count .result
+    ≤ length (c .before .before .before .before .before .args .buf .now)
 room c =
     let a = c .before .before .before .before .before .args in
     laid-room (a .at) (text (unpack (a .count) (a .s .now))) (a .buf .now) _ _ (size (c .before .before)) (c .before .fits2 .ensures) (not-false _ (c .if1 .left))

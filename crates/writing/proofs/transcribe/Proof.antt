@@ -29,7 +29,8 @@ inv : (k : tie.After-known-told Inv-loop μ-loop)
 inv k = k .before .before .before .before .before .loop .inv .0
 
 kept : (k : tie.After-known-told Inv-loop μ-loop)
-    → length (k .before .before .before .before .before .loop .buf) ≡ length (k .before .before .before .before .before .before .before .before .before .args .buf .now)
+    → length (k .before .before .before .before .before .loop .buf)
+    ≡ length (k .before .before .before .before .before .before .before .before .before .args .buf .now)
 kept k = k .before .before .before .before .before .loop .inv .1
 
 some : (k : tie.After-known-told Inv-loop μ-loop) → 0 < k .before .before .before .before .before .loop .left
@@ -41,12 +42,15 @@ octets k = slice-octets (k .before .before .before .before .before .before .befo
 
 -- the head, and that it is an item's
 says : (k : tie.After-known-told Inv-loop μ-loop)
-    → k .before .before .before .head-at .result ≡ headedAt (k .before .before .before .before .before .before .before .before .before .args .sheet .now) (k .before .before .before .before .before .loop .place)
+    → k .before .before .before .head-at .result
+    ≡ headedAt (k .before .before .before .before .before .before .before .before .before .args .sheet .now)
+    (k .before .before .before .before .before .loop .place)
 says k = k .before .before .before .head-at .ensures
 
 item :
     (k : tie.After-known-told Inv-loop μ-loop)
-    → (let f = k .before .number .given .0 in k .before .before .before .head-at .result ≡ Item (f .0) (f .1 .0) (f .1 .1 .0) (f .1 .1 .1 .0))
+    → (let f = k .before .number .given .0 in
+    k .before .before .before .head-at .result ≡ Item (f .0) (f .1 .0) (f .1 .1 .0) (f .1 .1 .1 .0))
 item k = k .before .number .given .1
 
 after : (k : tie.After-known-told Inv-loop μ-loop)
@@ -54,7 +58,8 @@ after : (k : tie.After-known-told Inv-loop μ-loop)
 after k = behind-head _ _ (octets k) _ (says k) _ _ _ _ (item k)
 
 within : (k : tie.After-known-told Inv-loop μ-loop)
-    → k .before .number .given .0 .1 .1 .1 .0 ≤ length (k .before .before .before .before .before .before .before .before .before .args .sheet .now)
+    → k .before .number .given .0 .1 .1 .1 .0
+    ≤ length (k .before .before .before .before .before .before .before .before .before .args .sheet .now)
 within k = behind-within _ _ (octets k) _ (says k) _ _ _ _ (item k)
 
 -- there is room for an attribute and its head
