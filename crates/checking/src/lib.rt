@@ -3,6 +3,11 @@
 use area::Arrival;
 use area::Refusal;
 use area::Step;
+use shape::IMSI;
+use shape::PDP_TYPE;
+use shape::SELECTION_MODE;
+use shape::SGSN_MCC_MNC;
+use shape::STOP_INDICATOR;
 ghost use mathlib.Core.Path.{_≡_};
 ghost use mathlib.Core.Bool.{true, not, _&&_, _||_};
 ghost use Prim.Native.Nat.{ℕ, _+_, _≤_, _<_};
@@ -25,26 +30,11 @@ ghost use Rattle.checking.specs.Lists.{mostEntries, LaysEntries, LaysOne
 ghost use Rattle.checking.specs.Lists.{lacksBy, wantedBy, wantsBy, endBy, Ready, AlongSays, PassSays};
 ghost use Rattle.checking.specs.Answers.{Checked};
 
-// 3GPP-IMSI, as a carried number
-const GPP_1: u16 = 257;
-
-// 3GPP-PDP-Type
-const GPP_3: u16 = 259;
-
-// 3GPP-Session-Stop-Indicator
-const GPP_11: u16 = 267;
-
-// 3GPP-Selection-Mode
-const GPP_12: u16 = 268;
-
-// 3GPP-SGSN-MCC-MNC
-const GPP_18: u16 = 274;
-
 // The numbers that rule 6 can ask for, in the order of their entries; the table says where it does.
 const DEMANDABLE: [u16; 5] = [1, 8, 30, 40, 44];
 
 // Those that rule 7 can ask for: the entry of 3GPP 3, type 26, stands between those of 25 and 60.
-const WANTABLE: [u16; 6] = [2, 3, 4, 25, GPP_3, 60];
+const WANTABLE: [u16; 6] = [2, 3, 4, 25, PDP_TYPE, 60];
 
 // So many entries have room in the first pass.
 const FEW: usize = 32;
@@ -88,7 +78,7 @@ fn code_wants(code: u8, flags: u32, named: bool) -> bool
 fn is_listed_3gpp(number: u16) -> bool
     ensures { λ r. ⌜ r ≡ meant.isListed3gpp number ⌝ }
 {
-    ((GPP_1 <= number) & (number <= GPP_12)) | (number == GPP_18)
+    ((IMSI <= number) & (number <= SELECTION_MODE)) | (number == SGSN_MCC_MNC)
 }
 
 // Rule 3: "For plain 1 to 4, 6 to 9, 30 to 32, 40 to 49, 60, 61 and for 3GPP 1 to 12, 18".
@@ -122,7 +112,7 @@ fn barred(codes: &[u8], kind: u32, flags: u32, number: u16) -> bool
         }
         return code_bars(code, flags);
     }
-    if number == GPP_11 {
+    if number == STOP_INDICATOR {
         return kind != 3;
     }
     if kind < 4 {
@@ -168,9 +158,9 @@ fn allowed(kind: u32, number: u16, value: &[u8]) -> bool
             (1 <= cause) & (cause <= 18)
         }
         40 => status_allowed(kind, octets::u32_at(value, 0)),
-        GPP_3 => octets::u32_at(value, 0) == 0,
-        GPP_11 => octets::u32_at(value, 0) == 255,
-        GPP_12 => octets::digit_value(value[0]) <= 2,
+        PDP_TYPE => octets::u32_at(value, 0) == 0,
+        STOP_INDICATOR => octets::u32_at(value, 0) == 255,
+        SELECTION_MODE => octets::digit_value(value[0]) <= 2,
         _ => true,
     }
 }

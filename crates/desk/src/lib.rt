@@ -4,6 +4,15 @@ ghost use mathlib.Core.Path.{_≡_};
 ghost use Rattle.meaning.specs.Jobs.{comes};
 ghost use Rattle.desk.specs.Answers.{Read, Checked, Wrote, doneOf, refusedOf, ReadOut, CheckedOut, WroteOut};
 
+// The longest area that is read, checked or written.
+pub const LONGEST_AREA: usize = 4076;
+
+// The longest sheet that reading makes: nine octets, and two for each of the area's.
+pub const LONGEST_SHEET: usize = 8161;
+
+// The longest list: three entries for each of 2,038 attributes, and twelve at the end.
+pub const LONGEST_LIST: usize = 6126;
+
 // A refusal of the book: its number and its second number.
 pub struct Refusal {
     pub number: u32,

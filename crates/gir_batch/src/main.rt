@@ -16,6 +16,12 @@ use lines::Text;
 ghost use mathlib.Core.Path.{_≡_};
 ghost use lib.ListN.{length};
 
+// Two digits for each octet of the longest sheet; no area is longer.
+const HEX_TEXT: usize = 2 * desk::LONGEST_SHEET;
+
+// Nine octets of text for each entry of a list.
+const LIST_TEXT: usize = 9 * desk::LONGEST_LIST;
+
 // How far the output buffer is used after a record, and whether it was the last.
 enum Step {
     Went(usize),
@@ -47,10 +53,10 @@ fn put_text(out: &mut [u8], used: usize, text: Text) -> usize {
     put(out, used, octets::part(&held, 0, text.len))
 }
 
-// Octets in hexadecimal, to the line's end. No sheet is longer than 8,161 octets, and no area than 4,076.
+// Octets of a sheet or an area in hexadecimal, to the line's end.
 fn put_hex(out: &mut [u8], used: usize, s: &[u8]) -> usize {
     let n = 2 * s.len();
-    let mut text = [0u8; 16322];
+    let mut text = [0u8; HEX_TEXT];
     octets::unpack_at(&mut text, 0, s, n);
     let then = put(out, used, octets::part(&text, 0, n));
     put(out, then, b"\n")
@@ -75,7 +81,7 @@ fn put_reading(out: &mut [u8], used: usize, payload: &[u8], n: usize, room: usiz
     }
     let kind = octets::wide32(payload[0]);
     let flags = octets::wide32(payload[1]);
-    let mut sheet = [0u8; 8161];
+    let mut sheet = [0u8; desk::LONGEST_SHEET];
     match read_within(&payload[2..], kind, flags, &mut sheet, room) {
         Reading::Sheet(m) => {
             return put_hex(out, used, octets::part(&sheet, 0, m));
@@ -88,8 +94,7 @@ fn put_reading(out: &mut [u8], used: usize, payload: &[u8], n: usize, room: usiz
 
 // The line of a list's first `count` entries: a space between two, and no space behind the last.
 fn put_list(out: &mut [u8], used: usize, list: &[u32], count: usize) -> usize {
-    // Nine octets for each of 6,126 entries.
-    let mut text = [0u8; 55134];
+    let mut text = [0u8; LIST_TEXT];
     let n = lines::entries(list, count, b' ', &mut text);
     if n == 0 {
         return put(out, used, b"\n");
@@ -111,8 +116,7 @@ fn put_checking(out: &mut [u8], used: usize, payload: &[u8], n: usize, room: usi
     }
     let kind = octets::wide32(payload[0]);
     let flags = octets::wide32(payload[1]);
-    // No list is longer: three entries for each of 2,038 attributes, and twelve at the end.
-    let mut list = [0u32; 6126];
+    let mut list = [0u32; desk::LONGEST_LIST];
     match check_within(&payload[2..], kind, flags, &mut list, room) {
         Checking::List(m) => {
             return put_list(out, used, &list, m);
@@ -143,7 +147,7 @@ fn put_writing(out: &mut [u8], used: usize, sheet: &[u8], n: usize, room: usize)
     if sheet.len() < n {
         return put(out, used, b"over 1048576 octets, not judged\n");
     }
-    let mut area = [0u8; 4076];
+    let mut area = [0u8; desk::LONGEST_AREA];
     match write_within(sheet, &mut area, room) {
         Writing::Area {
             length,

@@ -7,6 +7,12 @@ use libc::STDERR_FILENO;
 use libc::STDIN_FILENO;
 use libc::STDOUT_FILENO;
 
+// Room for kind octet, flags octet and area: the 4,077th octet of an area is enough to know that it is too long.
+const PAYLOAD: usize = 3 + desk::LONGEST_AREA;
+
+// Nine octets of text for each entry of a list.
+const LIST_TEXT: usize = 9 * desk::LONGEST_LIST;
+
 // Says on standard error what could not be opened, read or written.
 fn fail(name: &[u8]) {
     io::write_all(STDERR_FILENO, b"gir_check: ");
@@ -81,8 +87,7 @@ fn print_refusal(refusal: Refusal, all: u64) {
 
 // Prints the lines of a list's first `count` entries in one write; an empty list prints nothing.
 fn print_list(list: &[u32], count: usize) {
-    // Nine octets for each of 6,126 entries.
-    let mut text = [0u8; 55134];
+    let mut text = [0u8; LIST_TEXT];
     let n = lines::entries(list, count, b'\n', &mut text);
     if 0 < n {
         print(octets::part(&text, 0, n));
@@ -97,8 +102,7 @@ fn print_answer(payload: &[u8], all: u64) {
     }
     let kind = octets::wide32(payload[0]);
     let flags = octets::wide32(payload[1]);
-    // Three entries for each of 2,038 attributes, and twelve at the end: no list is longer.
-    let mut list = [0u32; 6126];
+    let mut list = [0u32; desk::LONGEST_LIST];
     match desk::check(&payload[2..], kind, flags, &mut list) {
         Checking::List(n) => {
             print_list(&list, n);
@@ -109,16 +113,16 @@ fn print_answer(payload: &[u8], all: u64) {
     }
 }
 
-// Reads the input and prints the answer; the 4,077th octet of an area is enough to know that it is too long.
+// Reads the input and prints the answer.
 fn answer(fd: i32, name: &[u8]) {
-    let mut buf = [0u8; 4079];
+    let mut buf = [0u8; PAYLOAD];
     let kept = io::read_full(fd, &mut buf);
     let Counted::All(all) = count(fd, kept as u64) else {
         fail(name);
         return;
     };
     // More behind what seemed the end: a read failed in between.
-    if (kept < 4079) & (all > kept as u64) {
+    if (kept < PAYLOAD) & (all > kept as u64) {
         fail(name);
         return;
     }

@@ -12,6 +12,12 @@ use libc::STDIN_FILENO;
 use libc::STDOUT_FILENO;
 use lines::Text;
 
+// Room for kind octet, flags octet and area: the 4,077th octet of an area is enough to know that it is too long.
+const PAYLOAD: usize = 3 + desk::LONGEST_AREA;
+
+// Room for the longest sheet as it is read back, and for one octet more than it should have.
+const READ_BACK: usize = 1 + desk::LONGEST_SHEET;
+
 // What a run carries from step to step: the descriptor that is open, the octets taken, the octets of the whole of IN, the octets of the
 // sheet, and the answer line, once something has failed.
 struct Work {
@@ -48,7 +54,7 @@ enum Counted {
 }
 
 // What stands at a path: nothing, a link, something else, or the system does not say.
-enum Stands {
+enum AtPath {
     Nothing,
     Link,
     Other,
@@ -288,7 +294,7 @@ fn make_sheet(taken: &[u8], sheet: &mut [u8], mut work: Work) -> Done {
 
 // Return: the sheet gives back what was taken.
 fn go_back(input: &[u8], taken: &[u8], sheet: &[u8], work: Work) -> Done {
-    let mut area = [0u8; 4076];
+    let mut area = [0u8; desk::LONGEST_AREA];
     match desk::write(sheet, &mut area) {
         Writing::Area {
             length,
@@ -314,31 +320,31 @@ fn ended(path: &[u8]) -> [u8; 4096] {
 }
 
 // What stands at a path. The question is put by `readlink`, which follows no link: EINVAL is its answer for what is no link.
-fn what_stands(path: &[u8]) -> Stands {
+fn what_stands(path: &[u8]) -> AtPath {
     let mut text = ended(path);
     text[4095] = 0;
     let mut link = [0u8; 1];
     let got = libc::readlink(&text, &mut link);
     if got >= 0 {
-        return Stands::Link;
+        return AtPath::Link;
     }
     let error = os::errno();
     if error == libc::ENOENT {
-        return Stands::Nothing;
+        return AtPath::Nothing;
     }
     if error == libc::EINVAL {
-        return Stands::Other;
+        return AtPath::Other;
     }
-    Stands::Unknown
+    AtPath::Unknown
 }
 
 // Look, LookAgain: nothing stands at OUT.
 fn look(out: &[u8], work: Work) -> Done {
     match what_stands(out) {
-        Stands::Nothing => well(work),
-        Stands::Link => wrong(work, b"out", out, b"a link of this name stands already"),
-        Stands::Other => wrong(work, b"out", out, b"a file of this name stands already"),
-        Stands::Unknown => failed(work, b"out", out),
+        AtPath::Nothing => well(work),
+        AtPath::Link => wrong(work, b"out", out, b"a link of this name stands already"),
+        AtPath::Other => wrong(work, b"out", out, b"a file of this name stands already"),
+        AtPath::Unknown => failed(work, b"out", out),
     }
 }
 
@@ -384,9 +390,9 @@ fn open(temp: &[u8], work: Work) -> Done {
     well(with_fd(work, fd))
 }
 
-// Compare: what is there is the sheet, no octet more and none less; closes the file. No sheet is longer than 8,161 octets.
+// Compare: what is there is the sheet, no octet more and none less; closes the file.
 fn compare(temp: &[u8], sheet: &[u8], work: Work) -> Done {
-    let mut back = [0u8; 8162];
+    let mut back = [0u8; READ_BACK];
     let Filled::Octets(n) = fill(work.fd, &mut back) else {
         let done = failed(work, b"compare", temp);
         libc::close(work.fd);
@@ -465,7 +471,7 @@ fn withdraw(temp: &[u8], out: &[u8], work: Work) -> Done {
     let mut space = io::buffer();
     let n = put_kept(temp, &mut space);
     let kept = octets::part(&space, 0, n);
-    let Stands::Nothing = what_stands(kept) else {
+    let AtPath::Nothing = what_stands(kept) else {
         complain(
             b"withdraw",
             out,
@@ -526,8 +532,8 @@ fn perform(
 
 // Files one sheet, step by step, and tells its answer line.
 fn file(input: &[u8], out: &[u8], temp: &[u8]) -> Text {
-    let mut payload = [0u8; 4079];
-    let mut sheet = [0u8; 8161];
+    let mut payload = [0u8; PAYLOAD];
+    let mut sheet = [0u8; desk::LONGEST_SHEET];
     let mut work = Work {
         fd: -1,
         kept: 0,

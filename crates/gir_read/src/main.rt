@@ -6,6 +6,9 @@ use libc::STDERR_FILENO;
 use libc::STDIN_FILENO;
 use libc::STDOUT_FILENO;
 
+// Room for kind octet, flags octet and area: the 4,077th octet of an area is enough to know that it is too long.
+const PAYLOAD: usize = 3 + desk::LONGEST_AREA;
+
 // Says on standard error what could not be opened, read or written.
 fn fail(name: &[u8]) {
     io::write_all(STDERR_FILENO, b"gir_read: ");
@@ -86,7 +89,7 @@ fn print_answer(payload: &[u8], all: u64) {
     }
     let kind = octets::wide32(payload[0]);
     let flags = octets::wide32(payload[1]);
-    let mut sheet = [0u8; 8161];
+    let mut sheet = [0u8; desk::LONGEST_SHEET];
     match desk::read(&payload[2..], kind, flags, &mut sheet) {
         Reading::Sheet(n) => {
             print(octets::part(&sheet, 0, n));
@@ -97,16 +100,16 @@ fn print_answer(payload: &[u8], all: u64) {
     }
 }
 
-// Reads the input and prints the answer; the 4,077th octet of an area is enough to know that it is too long.
+// Reads the input and prints the answer.
 fn answer(fd: i32, name: &[u8]) {
-    let mut buf = [0u8; 4079];
+    let mut buf = [0u8; PAYLOAD];
     let kept = io::read_full(fd, &mut buf);
     let Counted::All(all) = count(fd, kept as u64) else {
         fail(name);
         return;
     };
     // More behind what seemed the end: a read failed in between.
-    if (kept < 4079) & (all > kept as u64) {
+    if (kept < PAYLOAD) & (all > kept as u64) {
         fail(name);
         return;
     }

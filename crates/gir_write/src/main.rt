@@ -9,6 +9,9 @@ use libc::STDOUT_FILENO;
 ghost use mathlib.Core.Path.{_≡_};
 ghost use lib.ListN.{length};
 
+// Room for kind octet, flags octet and area.
+const ANSWER: usize = 2 + desk::LONGEST_AREA;
+
 // Says on standard error what could not be opened, read or written.
 fn fail(name: &[u8]) {
     io::write_all(STDERR_FILENO, b"gir_write: ");
@@ -29,18 +32,22 @@ fn print_refusal(refusal: Refusal) {
     print(octets::part(&text, 0, line.len));
 }
 
-// Prints the kind octet, the flags octet and the area, in one write; no area is longer than 4,076 octets.
+// Prints the kind octet, the flags octet and the area, in one write.
 fn print_area(kind: u8, flags: u8, area: &[u8]) {
     let head = [kind, flags];
-    let mut answer = [0u8; 4078];
+    let mut answer = [0u8; ANSWER];
     octets::copy_at(&mut answer, 0, &head);
     octets::copy_at(&mut answer, 2, area);
-    print(octets::part(&answer, 0, 2 + octets::least(area.len(), 4076)));
+    print(octets::part(
+        &answer,
+        0,
+        2 + octets::least(area.len(), desk::LONGEST_AREA),
+    ));
 }
 
 // Prints the answer for a sheet.
 fn print_answer(sheet: &[u8]) {
-    let mut area = [0u8; 4076];
+    let mut area = [0u8; desk::LONGEST_AREA];
     match desk::write(sheet, &mut area) {
         Writing::Area {
             length,

@@ -15,11 +15,11 @@ ghost use Rattle.shape.specs.Codes.{codeOf, shapeBy};
 ghost use Rattle.shape.specs.Items.{undigited, rawItem, itemFor};
 
 // The 3GPP numbers that have a shape, as carried numbers: 256 more than the sub-attribute's.
-const IMSI: u16 = 257;
+pub const IMSI: u16 = 257;
 
 const CHARGING_ID: u16 = 258;
 
-const PDP_TYPE: u16 = 259;
+pub const PDP_TYPE: u16 = 259;
 
 const CG_ADDRESS: u16 = 260;
 
@@ -35,11 +35,11 @@ const GGSN_MCC_MNC: u16 = 265;
 
 const NSAPI: u16 = 266;
 
-const STOP_INDICATOR: u16 = 267;
+pub const STOP_INDICATOR: u16 = 267;
 
-const SELECTION_MODE: u16 = 268;
+pub const SELECTION_MODE: u16 = 268;
 
-const SGSN_MCC_MNC: u16 = 274;
+pub const SGSN_MCC_MNC: u16 = 274;
 
 // The codes of the shapes. The tens of a code are the form of the shape, 0 where it has none of its own, and the ones tell the shapes of
 // one form apart: a least length, 17 octets or blocks of 16; a number, an address, 1 to 15 digits, 5 or 6 digits, hexadecimal text, a QoS
