@@ -1,6 +1,6 @@
 -- Document 01, "Seen at the desk": area A and the cases P1 to P10, as data. Assumes nothing.
 use Prim.Native.Nat.{ℕ}
-use mathlib.Core.List.{List, [], _∷_}
+use mathlib.Core.List.{List, [], _∷_, _++_}
 use mathlib.Core.Path.{_≡_}
 use lib.ListN.{length}
 use Rattle.meaning.specs.Jobs.{comes}
@@ -36,25 +36,27 @@ sheetA =
     ∷ 0x04 ∷ 0x00 ∷ 0x03 ∷ 0x04 ∷ 0x0A ∷ 0x00 ∷ 0x00 ∷ 0x01
     ∷ 0x1A ∷ 0x08 ∷ 0x04 ∷ 0x05 ∷ 0x00 ∷ 0x10 ∷ 0x1F ∷ []
 
--- P1 to P10; "P6 to P10 hold for read and check"
+-- a case by its parts
+abbrev pub asked : Job → (kind flags : ℕ) (area : List ℕ) (says : Answer (List ℕ)) → Case
+asked job kind flags area says = record { job = job; kind = kind; flags = flags; area = area; says = says }
+
+-- "P6 to P10 hold for read and check"; "Kind is 1 and flags 0 where not named"
+abbrev pub both : (flags : ℕ) (area : List ℕ) (says : Answer (List ℕ)) → List Case
+both flags area says = asked read 1 flags area says ∷ asked check 1 flags area says ∷ []
+
+-- P1 to P5, then P6 to P10
 abbrev pub cases : List Case
 cases =
-    record { job = read; kind = 4; flags = 0; area = areaA; says = given sheetA }
-    ∷ record { job = check; kind = 4; flags = 0; area = areaA; says = given (0x00641A08 ∷ []) }
-    ∷ record { job = check; kind = 3; flags = 0; area = areaA; says = given (0x01360800 ∷ 0x01361E00 ∷ 0x01362800 ∷ 0x01362C00 ∷ []) }
-    ∷ record { job = check; kind = 1; flags = 0; area = []; says = given (0x00060100 ∷ 0x00061E00 ∷ 0x00070400 ∷ []) }
-    ∷ record { job = check; kind = 4; flags = 0; area = []; says = given (0x00070400 ∷ []) }
-    ∷ record { job = read; kind = 1; flags = 0; area = 0x04 ∷ []; says = refused 4 0 }
-    ∷ record { job = check; kind = 1; flags = 0; area = 0x04 ∷ []; says = refused 4 0 }
-    ∷ record { job = read; kind = 1; flags = 0; area = 0x04 ∷ 0x01 ∷ []; says = refused 5 0 }
-    ∷ record { job = check; kind = 1; flags = 0; area = 0x04 ∷ 0x01 ∷ []; says = refused 5 0 }
-    ∷ record { job = read; kind = 1; flags = 0; area = 0x1A ∷ 0x07 ∷ []; says = refused 6 0 }
-    ∷ record { job = check; kind = 1; flags = 0; area = 0x1A ∷ 0x07 ∷ []; says = refused 6 0 }
-    ∷ record { job = read; kind = 1; flags = 0; area = 0x1A ∷ 0x06 ∷ 0x00 ∷ 0x00 ∷ 0x28 ∷ 0xAF ∷ []; says = refused 7 0 }
-    ∷ record { job = check; kind = 1; flags = 0; area = 0x1A ∷ 0x06 ∷ 0x00 ∷ 0x00 ∷ 0x28 ∷ 0xAF ∷ []; says = refused 7 0 }
-    ∷ record { job = read; kind = 1; flags = 3; area = []; says = refused 2 0 }
-    ∷ record { job = check; kind = 1; flags = 3; area = []; says = refused 2 0 }
-    ∷ []
+    asked read 4 0 areaA (given sheetA)
+    ∷ asked check 4 0 areaA (given (0x00641A08 ∷ []))
+    ∷ asked check 3 0 areaA (given (0x01360800 ∷ 0x01361E00 ∷ 0x01362800 ∷ 0x01362C00 ∷ []))
+    ∷ asked check 1 0 [] (given (0x00060100 ∷ 0x00061E00 ∷ 0x00070400 ∷ []))
+    ∷ asked check 4 0 [] (given (0x00070400 ∷ []))
+    ∷ both 0 (0x04 ∷ []) (refused 4 0)
+    ++ both 0 (0x04 ∷ 0x01 ∷ []) (refused 5 0)
+    ++ both 0 (0x1A ∷ 0x07 ∷ []) (refused 6 0)
+    ++ both 0 (0x1A ∷ 0x06 ∷ 0x00 ∷ 0x00 ∷ 0x28 ∷ 0xAF ∷ []) (refused 7 0)
+    ++ both 3 [] (refused 2 0)
 
 -- What document 01 says of an answer, given room: a sheet is that of the area, a list has exactly the breaches of its attributes,
 -- and a refusal is the first that applies.
