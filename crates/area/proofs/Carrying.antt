@@ -9,7 +9,8 @@ use lib.ListN.{length, take, drop, getD}
 use lib.Seq.{drop-drop, getD-drop}
 use borrow.Author.Tests.{lt-ltb, le-ltb, eq-eqb, ne-eqb, eqb-true}
 use Rattle.meaning.specs.Octets.{Octets, numberOf}
-use Rattle.meaning.specs.Framing.{headLength, gpp, isPlain, vendor3gpp, Found, attribute, refused, nothing, oneSub, vendorFound, found, foundAt}
+use Rattle.meaning.specs.Framing.{headLength, gpp, isPlain, vendor3gpp, Found, attribute, refused, nothing, oneSub, vendorFound, found}
+use Rattle.meaning.specs.Framing.{foundAt}
 use Rattle.meaning.proofs.Octets.{octets-drop}
 use Rattle.octets.specs.Parts.{partOf}
 use Rattle.area.specs.Answers.{stepOf, numberAt, carriedAs, carriedAt}

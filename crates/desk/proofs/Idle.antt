@@ -199,6 +199,8 @@ list-fixed b keeps l fixed =
     let long : length buffer ≡ 3 + length l = length-replicate {A = ℕ} (3 + length l) 0 in
     let three : 3 ≤ length buffer = omega (arith, long) in
     let fits : length l ≤ length buffer = omega (arith, long) in
-    let first = number-invented b keeps (comes 1 0) [] buffer _ (p4 buffer three) (length l) (fixed (comes 1 0) [] buffer _ (p4 buffer three) fits) in
-    let second = number-invented b keeps (comes 4 0) [] buffer _ (p5 buffer three) (length l) (fixed (comes 4 0) [] buffer _ (p5 buffer three) fits) in
+    let first =
+    number-invented b keeps (comes 1 0) [] buffer _ (p4 buffer three) (length l) (fixed (comes 1 0) [] buffer _ (p4 buffer three) fits) in
+    let second =
+    number-invented b keeps (comes 4 0) [] buffer _ (p5 buffer three) (length l) (fixed (comes 4 0) [] buffer _ (p5 buffer three) fits) in
     omega (arith, first, second, p4-p5 .0, p4-p5 .1)

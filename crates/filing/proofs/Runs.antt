@@ -43,8 +43,8 @@ on-the-way s (t went Badly ∷ l) r w =
     absurd (badly-leads-away t (r .1 .0) (on-the-way (back t) l (r .1 .1) w .0))
 
 -- A run that takes the rename has taken before it exactly these steps, each answered well and in this order: it has taken IN, read it
--- into a sheet, compared the return trip, seen that nothing stands at OUT, created the temporary file, written it, synced it, closed it, opened
--- it again, compared what is there with the sheet, synced its name, and seen again that nothing stands at OUT.
+-- into a sheet, compared the return trip, seen that nothing stands at OUT, created the temporary file, written it, synced it, closed
+-- it, opened it again, compared what is there with the sheet, synced its name, and seen again that nothing stands at OUT.
 pub renamed-only-after : (b c : List Taken) (a : Answer) → Run Take (b ++ Rename went a ∷ c) → b ≡ safely
 renamed-only-after b c a r =
     let comes = last-part Take b (Rename went a ∷ c) r .0 in

@@ -146,7 +146,9 @@ vendor-found : (n : ℕ) (r : List ℕ) → Octets r → 2 ≤ n → n < 256 →
 unfolding vendorFound oneSub
 vendor-found n r o two octet fits = go (ltb n 7) (eqb (numberOf (take 4 r)) vendor3gpp) (leb 2 (getD r 5 0)) (leb (getD r 5 0) 248) (eqb (getD r 5 0) (n - 6)) refl refl refl refl refl
   where
-    ours : numberOf (take 4 r) ≡ vendor3gpp → 2 ≤ getD r 5 0 → getD r 5 0 ≤ 248 → getD r 5 0 ≡ n - 6 → Framed (26 ∷ n ∷ r) (gpp (getD r 4 0)) 8 n
+    ours :
+        numberOf (take 4 r) ≡ vendor3gpp → 2 ≤ getD r 5 0 → getD r 5 0 ≤ 248 → getD r 5 0 ≡ n - 6
+        → Framed (26 ∷ n ∷ r) (gpp (getD r 4 0)) 8 n
     ours id a b e =
         let eight : n - 8 + 8 ≡ n = omega arith in
         let six : suc (suc (n - 8 + 6)) ≡ n = omega arith in

@@ -72,7 +72,9 @@ pub attribute-stands : (n k at : ℕ) (v d front first out : List ℕ) → k ≡
 unfolding attributeFront attributeOctets octetsOf lengthsAt headLength
 attribute-stands n k at v d front first out long room f w e = rw (sym long) (go (ltb n 256) room f w e)
   where
-    go : (b : Bool) → at + cond b 2 8 ≤ length d → front ≡ laidAt at (cond b (n ∷ []) (26 ∷ 0 ∷ octetsOf 4 vendor3gpp ++ (n - 256) ∷ 0 ∷ [])) d
+    go :
+        (b : Bool) → at + cond b 2 8 ≤ length d
+        → front ≡ laidAt at (cond b (n ∷ []) (26 ∷ 0 ∷ octetsOf 4 vendor3gpp ++ (n - 256) ∷ 0 ∷ [])) d
         → Begun (at + cond b 2 8) v front first → out ≡ set (set first (at + cond b 2 8 - 1) (k + 2)) (at + 1) (k + cond b 2 8)
         → Begun at (cond b (n ∷ (k + 2) ∷ v) (26 ∷ (k + 8) ∷ octetsOf 4 vendor3gpp ++ (n - 256) ∷ (k + 2) ∷ v)) d out
     go true room f w e =
