@@ -1,30 +1,17 @@
 // gir_check: an attribute area with its kind and flags, from standard input or from the file that the argument names: a kind octet,
 // a flags octet, then the area. Prints each entry of the list of breaches as eight upper-case hexadecimal digits on a line, nothing for
-// an empty list, or one line: `refused N S` or `short`.
-use desk::Checking;
-use desk::Refusal;
+// an empty list, or one line: `refused N S` or `short`; what it prints is `printing::check` of the input. With `--status` as first
+// argument the last act is to write a digit to descriptor 3.
 use libc::STDERR_FILENO;
 use libc::STDIN_FILENO;
 use libc::STDOUT_FILENO;
+ghost use mathlib.Core.Path.{_≡_};
+ghost use lib.ListN.{length};
 
-// Room for kind octet, flags octet and area: the 4,077th octet of an area is enough to know that it is too long.
-const PAYLOAD: usize = 3 + desk::LONGEST_AREA;
+// The descriptor that a status is written to: 0 no breach, 1 breaches, refused or short, 2 trouble.
+const STATUS_FILENO: i32 = 3;
 
-// Nine octets of text for each entry of a list.
-const LIST_TEXT: usize = 9 * desk::LONGEST_LIST;
-
-// Says on standard error what could not be opened, read or written.
-fn fail(name: &[u8]) {
-    io::write_all(STDERR_FILENO, b"gir_check: ");
-    os::fail(name);
-}
-
-// Writes octets to standard output, and says so if that fails.
-fn print(s: &[u8]) {
-    if !io::write_all(STDOUT_FILENO, s) {
-        fail(b"standard output");
-    }
-}
+const TROUBLE: u8 = 2;
 
 // What one more read of the input gives.
 enum Chunk {
@@ -37,6 +24,13 @@ enum Chunk {
 enum Counted {
     All(u64),
     Failed,
+}
+
+// Says on standard error what could not be opened, read or written; tells the status.
+fn fail(name: &[u8]) -> u8 {
+    io::write_all(STDERR_FILENO, b"gir_check: ");
+    os::fail(name);
+    TROUBLE
 }
 
 // Reads past what is kept, and tells how much came.
@@ -77,79 +71,82 @@ fn count(fd: i32, had: u64) -> Counted {
     Counted::All(total)
 }
 
-// Prints the line of a refusal, in one write.
-fn print_refusal(refusal: Refusal, all: u64) {
-    let second = lines::second_told(refusal.number, refusal.second as u64, all);
-    let line = lines::refusal(refusal.number, second);
-    let text = line.octets;
-    print(octets::part(&text, 0, line.len));
+// Room for the lines of the longest list: zeros.
+fn line_buffer() -> [u8; 55134]
+    ensures { λ r. ⌜ 55134 ≡ length r ⌝ }
+{
+    [0; 55134]
 }
 
-// Prints the lines of a list's first `count` entries in one write; an empty list prints nothing.
-fn print_list(list: &[u32], count: usize) {
-    let mut text = [0u8; LIST_TEXT];
-    let n = lines::entries(list, count, b'\n', &mut text);
-    if 0 < n {
-        print(octets::part(&text, 0, n));
+// Prints the answer for an input of which so much is kept as decides it; tells the status.
+fn print_answer(given: &[u8], all: usize) -> u8 {
+    let mut text = line_buffer();
+    let out: &mut [u8] = &mut text;
+    let n = printing::check(given, all, out);
+    if !io::write_all(STDOUT_FILENO, octets::part(out, 0, n)) {
+        return fail(b"standard output");
     }
+    if n == 0 { 0 } else { 1 }
 }
 
-// Prints the answer for a payload: the kind octet, the flags octet and the area, or as much of it as decides the answer.
-fn print_answer(payload: &[u8], all: u64) {
-    if payload.len() < 2 {
-        print(b"short\n");
-        return;
-    }
-    let kind = octets::wide32(payload[0]);
-    let flags = octets::wide32(payload[1]);
-    let mut list = [0u32; desk::LONGEST_LIST];
-    match desk::check(&payload[2..], kind, flags, &mut list) {
-        Checking::List(n) => {
-            print_list(&list, n);
-        }
-        Checking::Refused(refusal) => {
-            print_refusal(refusal, all);
-        }
-    }
-}
-
-// Reads the input and prints the answer.
-fn answer(fd: i32, name: &[u8]) {
-    let mut buf = [0u8; PAYLOAD];
+// Answers the input; tells the status.
+fn answer(fd: i32, name: &[u8]) -> u8 {
+    let mut buf = [0u8; printing::DECISIVE];
     let kept = io::read_full(fd, &mut buf);
     let Counted::All(all) = count(fd, kept as u64) else {
-        fail(name);
-        return;
+        return fail(name);
     };
     // More behind what seemed the end: a read failed in between.
-    if (kept < PAYLOAD) & (all > kept as u64) {
-        fail(name);
-        return;
+    if (kept < printing::DECISIVE) & (all > kept as u64) {
+        return fail(name);
     }
-    print_answer(octets::part(&buf, 0, kept), all);
+    print_answer(octets::part(&buf, 0, kept), all as usize)
 }
 
-fn main() {
-    let args = os::arg_count();
-    if args < 2 {
-        answer(STDIN_FILENO, b"standard input");
-        return;
-    }
-    if args > 2 {
-        io::write_all(STDERR_FILENO, b"gir_check: one file at most\n");
-        return;
-    }
-    let mut name = io::buffer();
-    let n = os::arg(1, &mut name);
+// Whether an argument is this word.
+fn is_word(i: usize, word: &[u8]) -> bool {
+    let mut text = [0u8; 16];
+    let n = os::arg(i, &mut text);
     if os::errno() != 0 {
-        fail(octets::part(&name, 0, 4096));
-        return;
+        return false;
+    }
+    filing::equal(octets::part(&text, 0, n), word)
+}
+
+// Answers the file that the argument at a place names; tells the status.
+fn answer_file(i: usize) -> u8 {
+    let mut name = io::buffer();
+    let n = os::arg(i, &mut name);
+    if os::errno() != 0 {
+        return fail(octets::part(&name, 0, 4096));
     }
     let fd = os::open_read(octets::part(&name, 0, n));
     if fd < 0 {
-        fail(octets::part(&name, 0, n));
+        return fail(octets::part(&name, 0, n));
+    }
+    let status = answer(fd, octets::part(&name, 0, n));
+    libc::close(fd);
+    status
+}
+
+// Answers what the argument behind the first so many names, or standard input where there is none; tells the status.
+fn answer_arguments(passed: usize) -> u8 {
+    let args = os::arg_count();
+    if args <= passed {
+        return answer(STDIN_FILENO, b"standard input");
+    }
+    if args - passed == 1 {
+        return answer_file(passed);
+    }
+    io::write_all(STDERR_FILENO, b"gir_check: one file at most\n");
+    TROUBLE
+}
+
+fn main() {
+    if is_word(1, b"--status") {
+        let status = answer_arguments(2);
+        io::write_all(STATUS_FILENO, &[octets::digit_text(status)]);
         return;
     }
-    answer(fd, octets::part(&name, 0, n));
-    libc::close(fd);
+    answer_arguments(1);
 }

@@ -1,91 +1,80 @@
 // gir_write: a sheet, from standard input or from the file that the argument names. Prints the kind octet, the flags octet and the
-// area, raw, or one line: `refused N S`. A sheet of more than 1,048,576 octets is not judged: standard output stays empty then, and
-// a line on standard error says so.
-use desk::Refusal;
-use desk::Writing;
+// area, raw, or one line: `refused N S`; what it prints is `printing::write` of the sheet. Of a sheet of more than 1,048,576 octets the
+// first are kept; where these do not decide the answer, standard output stays empty, and a line on standard error says so. With
+// `--status` as first argument the last act is to write a digit to descriptor 3.
 use libc::STDERR_FILENO;
 use libc::STDIN_FILENO;
 use libc::STDOUT_FILENO;
 ghost use mathlib.Core.Path.{_≡_};
 ghost use lib.ListN.{length};
 
+// The descriptor that a status is written to: 0 written, 1 refused, 2 trouble.
+const STATUS_FILENO: i32 = 3;
+
+const TROUBLE: u8 = 2;
+
+// The octets of a sheet that are kept.
+const KEPT: usize = 1048576;
+
 // Room for kind octet, flags octet and area.
 const ANSWER: usize = 2 + desk::LONGEST_AREA;
 
-// Says on standard error what could not be opened, read or written.
-fn fail(name: &[u8]) {
-    io::write_all(STDERR_FILENO, b"gir_write: ");
-    os::fail(name);
-}
-
-// Writes octets to standard output, and says so if that fails.
-fn print(s: &[u8]) {
-    if !io::write_all(STDOUT_FILENO, s) {
-        fail(b"standard output");
-    }
-}
-
-// Prints the line of a refusal, in one write.
-fn print_refusal(refusal: Refusal) {
-    let line = lines::refusal(refusal.number, refusal.second as u64);
-    let text = line.octets;
-    print(octets::part(&text, 0, line.len));
-}
-
-// Prints the kind octet, the flags octet and the area, in one write.
-fn print_area(kind: u8, flags: u8, area: &[u8]) {
-    let head = [kind, flags];
-    let mut answer = [0u8; ANSWER];
-    octets::copy_at(&mut answer, 0, &head);
-    octets::copy_at(&mut answer, 2, area);
-    print(octets::part(
-        &answer,
-        0,
-        2 + octets::least(area.len(), desk::LONGEST_AREA),
-    ));
-}
-
-// Prints the answer for a sheet.
-fn print_answer(sheet: &[u8]) {
-    let mut area = [0u8; desk::LONGEST_AREA];
-    match desk::write(sheet, &mut area) {
-        Writing::Area {
-            length,
-            kind,
-            flags,
-        } => {
-            print_area(kind, flags, octets::part(&area, 0, length));
-        }
-        Writing::Refused(refusal) => {
-            print_refusal(refusal);
-        }
-    }
-}
-
-// What the input has behind the octets that are kept.
-enum Rest {
-    Nothing,
-    More,
+// What one more read of the input gives.
+enum Chunk {
+    Octets(u64),
+    End,
     Failed,
 }
 
-fn behind(fd: i32) -> Rest {
-    let mut one = [0u8; 1];
-    let got = libc::read(fd, &mut one);
-    if got < 0 {
-        return Rest::Failed;
-    }
-    if got > 0 {
-        return Rest::More;
-    }
-    Rest::Nothing
+// The octets of the whole input, or that a read failed.
+enum Counted {
+    All(u64),
+    Failed,
 }
 
-// Says on standard error that a sheet is too long to be judged.
-fn too_long(name: &[u8]) {
+// Says on standard error what could not be opened, read or written; tells the status.
+fn fail(name: &[u8]) -> u8 {
     io::write_all(STDERR_FILENO, b"gir_write: ");
-    io::write_all(STDERR_FILENO, name);
-    io::write_all(STDERR_FILENO, b": over 1048576 octets, not judged\n");
+    os::fail(name);
+    TROUBLE
+}
+
+// Reads past what is kept, and tells how much came.
+fn more(fd: i32) -> Chunk {
+    let mut buf = io::buffer();
+    let got = libc::read(fd, &mut buf);
+    if got < 0 {
+        return Chunk::Failed;
+    }
+    let n = io::count(got, &buf);
+    if n == 0 {
+        return Chunk::End;
+    }
+    Chunk::Octets(n as u64)
+}
+
+// Counts the input to its end, with the octets had already; at most the largest 64-bit number.
+fn count(fd: i32, had: u64) -> Counted {
+    let mut total = had;
+    let mut turns = u64::MAX;
+    while turns > 0 {
+        match more(fd) {
+            Chunk::Octets(n) => {
+                if n > u64::MAX - total {
+                    return Counted::All(u64::MAX);
+                }
+                total += n;
+                turns -= 1;
+            }
+            Chunk::End => {
+                return Counted::All(total);
+            }
+            Chunk::Failed => {
+                return Counted::Failed;
+            }
+        }
+    }
+    Counted::All(total)
 }
 
 // Room for a sheet: zeros.
@@ -95,49 +84,86 @@ fn sheet_buffer() -> [u8; 1048576]
     [0; 1048576]
 }
 
-// Reads the input and prints the answer; a sheet is judged to its end, so only one that was kept whole.
-fn answer(fd: i32, name: &[u8]) {
-    let mut buf = sheet_buffer();
-    let kept = io::read_full(fd, &mut buf);
-    match behind(fd) {
-        Rest::Nothing => {
-            print_answer(octets::part(&buf, 0, kept));
-        }
-        Rest::More => {
-            // More behind what seemed the end: a read failed in between.
-            if kept < buf.len() {
-                fail(name);
-                return;
-            }
-            too_long(name);
-        }
-        Rest::Failed => {
-            fail(name);
-        }
-    }
+// Says on standard error that a sheet is too long to be judged; tells the status.
+fn too_long(name: &[u8]) -> u8 {
+    io::write_all(STDERR_FILENO, b"gir_write: ");
+    io::write_all(STDERR_FILENO, name);
+    io::write_all(STDERR_FILENO, b": over 1048576 octets, not judged\n");
+    TROUBLE
 }
 
-fn main() {
-    let args = os::arg_count();
-    if args < 2 {
-        answer(STDIN_FILENO, b"standard input");
-        return;
+// Prints the answer for a sheet of which so many octets are kept; tells the status.
+fn print_answer(sheet: &[u8], all: usize, name: &[u8]) -> u8 {
+    let mut out = [0u8; ANSWER];
+    let n = printing::write(sheet, all, &mut out);
+    if n == 0 {
+        return too_long(name);
     }
-    if args > 2 {
-        io::write_all(STDERR_FILENO, b"gir_write: one file at most\n");
-        return;
+    if !io::write_all(STDOUT_FILENO, octets::part(&out, 0, n)) {
+        return fail(b"standard output");
     }
-    let mut name = io::buffer();
-    let n = os::arg(1, &mut name);
+    // An area has its kind before it, 1 to 6, and a line begins with a letter.
+    if out[0] <= 6 { 0 } else { 1 }
+}
+
+// Answers the input; tells the status.
+fn answer(fd: i32, name: &[u8]) -> u8 {
+    let mut buf = sheet_buffer();
+    let kept = io::read_full(fd, &mut buf);
+    let Counted::All(all) = count(fd, kept as u64) else {
+        return fail(name);
+    };
+    // More behind what seemed the end: a read failed in between.
+    if (kept < KEPT) & (all > kept as u64) {
+        return fail(name);
+    }
+    print_answer(octets::part(&buf, 0, kept), all as usize, name)
+}
+
+// Whether an argument is this word.
+fn is_word(i: usize, word: &[u8]) -> bool {
+    let mut text = [0u8; 16];
+    let n = os::arg(i, &mut text);
     if os::errno() != 0 {
-        fail(octets::part(&name, 0, 4096));
-        return;
+        return false;
+    }
+    filing::equal(octets::part(&text, 0, n), word)
+}
+
+// Answers the file that the argument at a place names; tells the status.
+fn answer_file(i: usize) -> u8 {
+    let mut name = io::buffer();
+    let n = os::arg(i, &mut name);
+    if os::errno() != 0 {
+        return fail(octets::part(&name, 0, 4096));
     }
     let fd = os::open_read(octets::part(&name, 0, n));
     if fd < 0 {
-        fail(octets::part(&name, 0, n));
+        return fail(octets::part(&name, 0, n));
+    }
+    let status = answer(fd, octets::part(&name, 0, n));
+    libc::close(fd);
+    status
+}
+
+// Answers what the argument behind the first so many names, or standard input where there is none; tells the status.
+fn answer_arguments(passed: usize) -> u8 {
+    let args = os::arg_count();
+    if args <= passed {
+        return answer(STDIN_FILENO, b"standard input");
+    }
+    if args - passed == 1 {
+        return answer_file(passed);
+    }
+    io::write_all(STDERR_FILENO, b"gir_write: one file at most\n");
+    TROUBLE
+}
+
+fn main() {
+    if is_word(1, b"--status") {
+        let status = answer_arguments(2);
+        io::write_all(STATUS_FILENO, &[octets::digit_text(status)]);
         return;
     }
-    answer(fd, octets::part(&name, 0, n));
-    libc::close(fd);
+    answer_arguments(1);
 }

@@ -86,18 +86,18 @@ no-room : (s d : List ℕ) → length d < length s → fitsAt 0 s d ≡ false
 unfolding fitsAt
 no-room s d h = lt-leb (0 + length s) (length d) (omega arith)
 
-start-laid : (s d out : List ℕ) (n : ℕ) → length s ≡ n → n ≤ length d → out ≡ over s d → StartLaid s d n out
+pub start-laid : (s d out : List ℕ) (n : ℕ) → length s ≡ n → n ≤ length d → out ≡ over s d → StartLaid s d n out
 start-laid s d out n e h o =
     let fits : fitsAt 0 s d ≡ true = room-fits 0 s d (omega arith) in
     record { says = sym (ap (λ (b : Bool). cond b (length s) 0) fits ∙ e); holds = o ∙ sym (laid-first s d (omega arith)) }
 
-start-not-laid : (s d : List ℕ) → length d < length s → StartLaid s d 0 d
+pub start-not-laid : (s d : List ℕ) → length d < length s → StartLaid s d 0 d
 start-not-laid s d h =
     let fits : fitsAt 0 s d ≡ false = no-room s d h in
     record { says = sym (ap (λ (b : Bool). cond b (length s) 0) fits); holds = sym (laid-none 0 s d fits) }
 
 -- no more of a list than it has
-take-least : (n : ℕ) (l : List ℕ) → take (min n (length l)) l ≡ take n l
+pub take-least : (n : ℕ) (l : List ℕ) → take (min n (length l)) l ≡ take n l
 take-least n l = go (leb n (length l)) refl
   where
     go : (b : Bool) → leb n (length l) ≡ b → take (min n (length l)) l ≡ take n l

@@ -5,3 +5,4 @@ pub mod Entries
 pub mod Walking
 pub mod Transcribing
 pub mod Whole
+pub mod Starts

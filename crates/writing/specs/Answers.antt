@@ -16,6 +16,8 @@ use Rattle.writing.specs.declared.Judgement.{Judgement}
 use Rattle.writing.specs.declared.Judgement.the-variants as judgement
 use Rattle.writing.specs.declared.Pass.{Pass}
 use Rattle.writing.specs.declared.Pass.the-variants as pass
+use Rattle.writing.specs.declared.Start.{Start}
+use Rattle.writing.specs.declared.Start.the-variants as start
 use Rattle.writing.specs.declared.Writing.{Writing}
 use Rattle.writing.specs.declared.Writing.the-variants.{Area, Refused}
 
@@ -33,6 +35,11 @@ judgementBy r sheet = judgementFrom r (length (areaIn sheet)) (kindIn sheet) (fl
 -- what a sheet is judged by the first of 20 to 24 that applies
 unfoldable pub judgementOf : (sheet : List ℕ) → Judgement
 judgementOf sheet = judgementBy (judged sheet) sheet
+
+-- what is said of a longer sheet by its first octets: the refusal that they decide, or that it hangs on the rest
+abbrev pub startSaid : book.Refusal → Start
+startSaid book.none = start.Open
+startSaid (book.refusal n s) = start.Refused (record { number = n; second = s })
 
 -- 20 or 21, where one applies
 unfoldable pub frontRefusal : (sheet : List ℕ) → book.Refusal

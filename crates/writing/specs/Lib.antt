@@ -1,2 +1,3 @@
 pub mod Attributes
 pub mod Answers
+pub mod Starts

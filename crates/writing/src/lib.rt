@@ -10,13 +10,15 @@ ghost use lib.ListN.{length, take};
 ghost use Rattle.meaning.specs.Versions.{current};
 ghost use Rattle.meaning.specs.Octets.{digitText, text, unpack, packedLength};
 ghost use Rattle.meaning.specs.Shapes.{shapeOf};
-ghost use Rattle.meaning.specs.Sheet.{marked, storedLength};
+ghost use Rattle.meaning.specs.Sheet.{marked, storedLength, judged};
 ghost use Rattle.octets.specs.Parts.{laidAt};
 ghost use Rattle.meaning.specs.Framing.{headLength};
 ghost use Rattle.shape.specs.Codes.{codeOf, shapeBy};
 ghost use Rattle.item.specs.Stands.{raw, shaped, standsAs};
 ghost use Rattle.writing.specs.Attributes.{span, profileText, valueAs, attributeFront, lengthsAt, Digited, Laying, Attributed};
-ghost use Rattle.writing.specs.Answers.{frontOf, brokenAs, Transcribed, endedAs, judgementOf, sizeOf, HandedOver, Wrote};
+ghost use Rattle.meaning.specs.Refusals as book;
+ghost use Rattle.writing.specs.Starts.{filled, startBy, startRefusal};
+ghost use Rattle.writing.specs.Answers.{startSaid, frontOf, brokenAs, Transcribed, endedAs, judgementOf, sizeOf, HandedOver, Wrote};
 
 // "24: area to be written over 4,076 octets".
 const LONGEST: usize = 4076;
@@ -45,6 +47,12 @@ pub enum Writing {
 pub enum Judgement {
     Writable { size: usize, kind: u8, flags: u8 },
     Refused(Refusal),
+}
+
+// What the first octets of a longer sheet decide of it: a refusal, or that it hangs on the rest.
+pub enum Start {
+    Refused(Refusal),
+    Open,
 }
 
 // What the front of a sheet says: that its items are to be judged, or 20 or 21.
@@ -399,6 +407,55 @@ pub fn judge(sheet: &[u8]) -> Judgement
             let mut buf = [0u8; SPAN];
             return ended(sheet, transcribe(sheet, &mut buf));
         }
+    }
+}
+
+// Whether the items of a sheet fill it exactly.
+fn is_filled(sheet: &[u8]) -> bool
+    ensures { λ r. ⌜ r ≡ filled (judged (now (sheet .entry))) ⌝ }
+{
+    match judge(sheet) {
+        Judgement::Writable { .. } => true,
+        Judgement::Refused(refusal) => refusal.number == 24,
+    }
+}
+
+// 22, at a place of a sheet.
+fn remaining(place: usize) -> Start
+    ensures { λ r. ⌜ r ≡ startSaid (book.refusal 22 place) ⌝ }
+{
+    Start::Refused(Refusal {
+        number: 22,
+        second: place,
+    })
+}
+
+// What kept octets decide that are refused by themselves.
+fn start_by(kept: &[u8], refusal: Refusal) -> Start
+    ensures { λ r. ⌜ r ≡ startSaid (startBy (now (kept .entry)) (book.refusal (refusal .number) (refusal .second))) ⌝ }
+{
+    if refusal.number == 24 {
+        return remaining(kept.len());
+    }
+    if refusal.number == 22 {
+        if is_filled(octets::part(kept, 0, refusal.second)) {
+            return remaining(refusal.second);
+        }
+        return Start::Open;
+    }
+    if kept.len() < 9 {
+        return Start::Open;
+    }
+    Start::Refused(refusal)
+}
+
+// What the first octets of a longer sheet decide of it.
+pub fn judge_start(kept: &[u8]) -> Start
+    ensures { λ r. ⌜ r ≡ startSaid (startRefusal (now (kept .entry))) ⌝ }
+{
+    match judge(kept) {
+        Judgement::Writable { .. } => remaining(kept.len()),
+        Judgement::Refused(refusal) => start_by(kept, refusal),
     }
 }
 
