@@ -46,3 +46,32 @@ run_desk() {
     find_kit
     run_program gir_batch
 }
+
+# build_fault FILE: builds src/fault.c as the shared object FILE, after find_kit. The kit's compiler
+# makes it, for x86-64 on every machine, as it makes the programs.
+build_fault() {
+    fault=$1
+    "$tools/bin/clang" --target=x86_64-unknown-linux-gnu --no-default-config -O2 -shared -fPIC \
+        -nostdlib -fuse-ld=lld -o "$fault" "$here/src/fault.c" >&2
+}
+
+# set_fault HOW NUMBER: what is run from here on meets something at that call of the system, as
+# src/fault.c tells; after build_fault, and in a shell of its own. The emulator hands the object on
+# to the program: it cannot be loaded into the emulator itself.
+set_fault() {
+    export GIR_HOW="$1" GIR_AT="$2"
+    if [ -n "$emulator" ]; then
+        export QEMU_SET_ENV="LD_PRELOAD=$fault"
+    else
+        export LD_PRELOAD="$fault"
+    fi
+}
+
+# run_faulty HOW NUMBER NAME [ARGUMENT..]: run_program with something at that call of the system.
+run_faulty() {
+    (
+        set_fault "$1" "$2"
+        shift 2
+        run_program "$@"
+    )
+}
