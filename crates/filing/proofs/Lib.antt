@@ -1,4 +1,5 @@
 pub mod Alike
 pub mod Names
+pub mod Outcomes
 pub mod EachStep
 pub mod Runs

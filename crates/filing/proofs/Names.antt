@@ -1,4 +1,5 @@
--- Laws of names: a search from the left, the folder of a path, a line's verdicts, the temporary file's name in its pieces. Assumes nothing.
+-- Laws of names: a search from the left, the folder of a path, what a line says and two names are, the temporary file's name in its
+-- pieces. Assumes nothing.
 use mathlib.Core.Path.{_≡_, refl, sym, ap, _∙_}
 use mathlib.Core.Bool.{Bool, true, false, cond}
 use mathlib.Core.List.{List, [], _∷_, _++_, append-assoc}
@@ -6,15 +7,18 @@ use Prim.Native.Nat.{ℕ, suc, _+_, _-_, _<_, _≤_}
 use native.Mathlib.Numerals.{add-one}
 use native.Mathlib.Omega.{arith}
 use borrow.Author.Tests.{eq-eqb, ne-eqb, le-leb, lt-leb, lt-ltb, le-ltb}
-use lib.Dec.{eqb}
+use lib.Dec.{T, eqb, ltb}
 use lib.ListN.{length, take, drop, getD, drop-of-length-le, length-drop, length-append}
 use lib.Seq.{drop-cons, take-all, length-take-le}
 use Rattle.octets.specs.Parts.{partOf, fitsAt, laidAt}
 use Rattle.octets.proofs.Overs.{laid-first, laid-behind, laid-none}
 use Rattle.octets.proofs.Parts.{part-within, part-rest}
 use Rattle.meaning.specs.Answers.{over}
-use Rattle.filing.specs.declared.Line.the-variants.{Names, NoTab, TwoTabs, NoName, ZeroOctet, TooLong}
-use Rattle.filing.specs.Names.{upTo, lineWith, lineOf, folderFrom, folderLength, dotGir, dotTmp, temporaryName, Named}
+use Rattle.filing.specs.declared.Line.the-variants.{Names, NoTab, TwoTabs}
+use Rattle.filing.specs.declared.Pair.{Pair}
+use Rattle.filing.specs.declared.Pair.the-variants.{Fit, NoName, ZeroOctet, TooLong, CarriageReturn}
+use Rattle.filing.specs.Names.{upTo, lineWith, lineOf, endsInReturn, pairByEnds, pairOf, fits, folderFrom, folderLength}
+use Rattle.filing.specs.Names.{dotGir, dotTmp, temporaryName, Named}
 
 -- ---- The first x
 
@@ -107,51 +111,130 @@ module _ (s : List ℕ) (i found : ℕ) (u : Found s i found) where
 rest-whole : (l : List ℕ) (k : ℕ) → take (length l - k) (drop k l) ≡ drop k l
 rest-whole l k = take-all (length l - k) (drop k l) (omega (arith, length-drop k l))
 
-module _ (l : List ℕ) (tab out : ℕ) (t : tab ≡ upTo 9 l) (o : out ≡ length l - (tab + 1)) where
-  by-parts : lineWith l tab out ≡ lineOf l
+module _ (l : List ℕ) (tab : ℕ) (t : tab ≡ upTo 9 l) where
+  by-tab : lineWith l tab ≡ lineOf l
   unfolding lineOf
-  by-parts = rw (o, t)
+  by-tab = rw t
 
   pub no-tab : length l ≤ tab → NoTab ≡ lineOf l
   unfolding lineWith
-  no-tab h = sym (sym by-parts ∙ rw (le-leb (length l) tab h))
+  no-tab h = sym (sym by-tab ∙ rw (le-leb (length l) tab h))
 
-  module _ (h : tab < length l) where
-    pub no-in : tab ≡ 0 → NoName ≡ lineOf l
+  module _ (h : tab < length l) (again : ℕ) (a : again ≡ upTo 9 (take (length l - (tab + 1)) (drop (tab + 1) l))) where
+    in-rest : again ≡ upTo 9 (drop (tab + 1) l)
+    in-rest = a ∙ ap (upTo 9) (rest-whole l (tab + 1))
+
+    pub two-tabs : again < length l - (tab + 1) → TwoTabs ≡ lineOf l
     unfolding lineWith
-    no-in e = sym (sym by-parts ∙ rw (lt-leb (length l) tab h, eq-eqb tab 0 e))
+    two-tabs e = sym (sym by-tab ∙ rw (lt-leb (length l) tab h, ← in-rest, lt-ltb again (length l - (tab + 1)) e))
 
-    module _ (i : tab ≡ 0 → ⊥) where
-      pub no-out : out ≡ 0 → NoName ≡ lineOf l
-      unfolding lineWith
-      no-out e = sym (sym by-parts ∙ rw (lt-leb (length l) tab h, ne-eqb tab 0 i, eq-eqb out 0 e))
+    pub one-tab : length l - (tab + 1) ≤ again → Names tab ≡ lineOf l
+    unfolding lineWith
+    one-tab e = sym (sym by-tab ∙ rw (lt-leb (length l) tab h, ← in-rest, le-ltb again (length l - (tab + 1)) e))
 
-      module _ (u : out ≡ 0 → ⊥) (again : ℕ) (a : again ≡ upTo 9 (take (length l - (tab + 1)) (drop (tab + 1) l))) where
-        in-rest : again ≡ upTo 9 (drop (tab + 1) l)
-        in-rest = a ∙ ap (upTo 9) (rest-whole l (tab + 1))
+-- ---- What two names are
 
-        pub two-tabs : again < out → TwoTabs ≡ lineOf l
-        unfolding lineWith
-        two-tabs e = sym (sym by-parts ∙ rw (lt-leb (length l) tab h, ne-eqb tab 0 i, ne-eqb out 0 u, ← in-rest, lt-ltb again out e))
+pub empty-ends : (l : List ℕ) → length l ≡ 0 → false ≡ endsInReturn l
+unfolding endsInReturn
+empty-ends [] h = refl
+empty-ends (x ∷ l) h = absurd (omega arith)
 
-        module _ (one : out ≤ again) (zero : ℕ) (z : zero ≡ upTo 0 l) where
-          pub zero-octet : zero < length l → ZeroOctet ≡ lineOf l
-          unfolding lineWith
-          zero-octet e = sym (sym by-parts ∙ rw (lt-leb (length l) tab h, ne-eqb tab 0 i, ne-eqb out 0 u, ← in-rest, le-ltb again out one, ← z, lt-ltb zero (length l) e))
+pub ends-so : (l : List ℕ) (b : Bool) → b ≡ eqb (getD l (length l - 1) 0) 13 → b ≡ endsInReturn l
+unfolding endsInReturn
+ends-so l b e = e
 
-          module _ (none : length l ≤ zero) where
-            pub long-in : 4095 < tab → TooLong ≡ lineOf l
-            unfolding lineWith
-            long-in e = sym (sym by-parts ∙ rw (lt-leb (length l) tab h, ne-eqb tab 0 i, ne-eqb out 0 u, ← in-rest, le-ltb again out one, ← z, le-ltb zero (length l) none, lt-ltb 4095 tab e))
+module _ (i o : List ℕ) where
+  pub taken-exactly : (exact : Bool) → exact ≡ true → Fit ≡ pairByEnds exact i o
+  unfolding pairByEnds
+  taken-exactly exact e = rw e
 
-            module _ (short : tab ≤ 4095) where
-              pub long-out : 4086 < out → TooLong ≡ lineOf l
-              unfolding lineWith
-              long-out e = sym (sym by-parts ∙ rw (lt-leb (length l) tab h, ne-eqb tab 0 i, ne-eqb out 0 u, ← in-rest, le-ltb again out one, ← z, le-ltb zero (length l) none, le-ltb 4095 tab short, lt-ltb 4086 out e))
+  module _ (exact : Bool) (x : exact ≡ false) (ri : Bool) (ei : ri ≡ endsInReturn i) where
+    pub return-in : ri ≡ true → CarriageReturn ≡ pairByEnds exact i o
+    unfolding pairByEnds
+    return-in e = rw (x, ← ei, e)
 
-              pub two-names : out ≤ 4086 → Names tab ≡ lineOf l
-              unfolding lineWith
-              two-names e = sym (sym by-parts ∙ rw (lt-leb (length l) tab h, ne-eqb tab 0 i, ne-eqb out 0 u, ← in-rest, le-ltb again out one, ← z, le-ltb zero (length l) none, le-ltb 4095 tab short, le-ltb 4086 out e))
+    module _ (ni : ri ≡ false) (ro : Bool) (eo : ro ≡ endsInReturn o) where
+      pub return-out : ro ≡ true → CarriageReturn ≡ pairByEnds exact i o
+      unfolding pairByEnds
+      return-out e = rw (x, ← ei, ni, ← eo, e)
+
+      pub no-return : ro ≡ false → Fit ≡ pairByEnds exact i o
+      unfolding pairByEnds
+      no-return e = rw (x, ← ei, ni, ← eo, e)
+
+module _ (exact : Bool) (i o : List ℕ) where
+  pub no-in : length i ≡ 0 → NoName ≡ pairOf exact i o
+  unfolding pairOf
+  no-in e = rw (eq-eqb (length i) 0 e)
+
+  module _ (hi : length i ≡ 0 → ⊥) where
+    pub no-out : length o ≡ 0 → NoName ≡ pairOf exact i o
+    unfolding pairOf
+    no-out e = rw (ne-eqb (length i) 0 hi, eq-eqb (length o) 0 e)
+
+    module _ (ho : length o ≡ 0 → ⊥) (zi : ℕ) (ei : zi ≡ upTo 0 i) where
+      pub zero-in : zi < length i → ZeroOctet ≡ pairOf exact i o
+      unfolding pairOf
+      zero-in e = rw (ne-eqb (length i) 0 hi, ne-eqb (length o) 0 ho, ← ei, lt-ltb zi (length i) e)
+
+      module _ (ni : length i ≤ zi) (zo : ℕ) (eo : zo ≡ upTo 0 o) where
+        pub zero-out : zo < length o → ZeroOctet ≡ pairOf exact i o
+        unfolding pairOf
+        zero-out e = rw (ne-eqb (length i) 0 hi, ne-eqb (length o) 0 ho, ← ei, le-ltb zi (length i) ni, ← eo, lt-ltb zo (length o) e)
+
+        module _ (no : length o ≤ zo) where
+          by-lengths : pairOf exact i o ≡ cond (ltb 4095 (length i)) TooLong (cond (ltb 4086 (length o)) TooLong (pairByEnds exact i o))
+          unfolding pairOf
+          by-lengths = rw (ne-eqb (length i) 0 hi, ne-eqb (length o) 0 ho, ← ei, le-ltb zi (length i) ni, ← eo, le-ltb zo (length o) no)
+
+          pub long-in : 4095 < length i → TooLong ≡ pairOf exact i o
+          long-in e = sym (by-lengths ∙ rw (lt-ltb 4095 (length i) e))
+
+          module _ (si : length i ≤ 4095) where
+            pub long-out : 4086 < length o → TooLong ≡ pairOf exact i o
+            long-out e = sym (by-lengths ∙ rw (le-ltb 4095 (length i) si, lt-ltb 4086 (length o) e))
+
+            pub by-ends : (r : Pair) → length o ≤ 4086 → r ≡ pairByEnds exact i o → r ≡ pairOf exact i o
+            by-ends r so e = e ∙ sym (by-lengths ∙ rw (le-ltb 4095 (length i) si, le-ltb 4086 (length o) so))
+
+-- a name with a carriage return behind it ends in one
+pub return-behind : (l : List ℕ) → endsInReturn (l ++ (13 ∷ [])) ≡ true
+unfolding endsInReturn
+return-behind l = rw (last-place, last l)
+  where
+    last : (m : List ℕ) → getD (m ++ (13 ∷ [])) (length m) 0 ≡ 13
+    last [] = refl
+    last (x ∷ m) = last m
+
+    last-place : length (l ++ (13 ∷ [])) - 1 ≡ length l
+    last-place = omega (arith, length-append l (13 ∷ []))
+
+-- neither of two names ends in a carriage return
+pub record NoReturn (input out : List ℕ) : Type 0 where
+  pub in-without : endsInReturn input ≡ false
+  pub out-without : endsInReturn out ≡ false
+
+-- Two names that fit end in no carriage return, unless they come exactly: nothing is filed under a name with the end of a line.
+pub fit-without-return : (i o : List ℕ) → T (fits (pairOf false i o)) → NoReturn i o
+unfolding pairOf pairByEnds
+fit-without-return i o =
+    tests (eqb (length i) 0) (eqb (length o) 0) (ltb (upTo 0 i) (length i)) (ltb (upTo 0 o) (length o)) (ltb 4095 (length i))
+    (ltb 4086 (length o)) (endsInReturn i) (endsInReturn o) refl refl
+  where
+    tests :
+        (a b c d e f x y : Bool) → endsInReturn i ≡ x → endsInReturn o ≡ y
+        → T (fits (cond a NoName (cond b NoName (cond c ZeroOctet (cond d ZeroOctet (cond e TooLong (cond f TooLong
+        (cond x CarriageReturn (cond y CarriageReturn Fit)))))))))
+        → NoReturn i o
+    tests true b c d e f x y p q t = absurd t
+    tests false true c d e f x y p q t = absurd t
+    tests false false true d e f x y p q t = absurd t
+    tests false false false true e f x y p q t = absurd t
+    tests false false false false true f x y p q t = absurd t
+    tests false false false false false true x y p q t = absurd t
+    tests false false false false false false true y p q t = absurd t
+    tests false false false false false false false true p q t = absurd t
+    tests false false false false false false false false p q t = record { in-without = p; out-without = q }
 
 -- ---- The temporary file's name
 

@@ -7,7 +7,8 @@ ghost use lib.Dec.{eqb};
 ghost use Rattle.meaning.specs.Octets.{same};
 ghost use Rattle.filing.specs.Steps.{onward, back, nextOf};
 ghost use Rattle.filing.specs.Runs.{left};
-ghost use Rattle.filing.specs.Names.{upTo, lineOf, folderLength, Named};
+ghost use Rattle.filing.specs.Names.{upTo, lineOf, endsInReturn, pairByEnds, pairOf, folderLength, Named};
+ghost use Rattle.filing.specs.Outcomes.{refusedOr, worseOf, digitOf};
 
 // A step of filing one sheet. IN names what is filed, OUT the name that the sheet gets; the temporary file stands in OUT's folder.
 pub enum Step {
@@ -205,12 +206,9 @@ pub enum Line {
     Names(usize),
     NoTab,
     TwoTabs,
-    NoName,
-    ZeroOctet,
-    TooLong,
 }
 
-// What a line says. A name has no octet 0; IN has at most 4,095 octets, OUT 4,086, so that the temporary file's name is a path too.
+// What a line says, in which one tab stands between two names.
 pub fn split(line: &[u8]) -> Line
     ensures { λ r. ⌜ r ≡ lineOf (now (line .entry)) ⌝ }
 {
@@ -219,26 +217,111 @@ pub fn split(line: &[u8]) -> Line
         return Line::NoTab;
     }
     let start = tab + 1;
-    let out = line.len() - start;
-    if tab == 0 {
-        return Line::NoName;
-    }
-    if out == 0 {
-        return Line::NoName;
-    }
-    if before(&line[start..], b'\t') < out {
+    if before(&line[start..], b'\t') < line.len() - start {
         return Line::TwoTabs;
     }
-    if before(line, 0) < line.len() {
-        return Line::ZeroOctet;
-    }
-    if 4095 < tab {
-        return Line::TooLong;
-    }
-    if 4086 < out {
-        return Line::TooLong;
-    }
     Line::Names(tab)
+}
+
+// Whether the last octet of a name is a carriage return.
+pub fn ends_in_return(name: &[u8]) -> bool
+    ensures { λ r. ⌜ r ≡ endsInReturn (now (name .entry)) ⌝ }
+{
+    if name.len() == 0 {
+        return false;
+    }
+    name[name.len() - 1] == b'\r'
+}
+
+// Two names, IN and OUT: they fit, or what is wrong with them.
+pub enum Pair {
+    Fit,
+    NoName,
+    ZeroOctet,
+    TooLong,
+    CarriageReturn,
+}
+
+// What two names are by their ends. A carriage return there is taken for a part of the name only where names come exactly, and else for
+// the end of a line.
+fn judge_ends(input: &[u8], out: &[u8], exact: bool) -> Pair
+    ensures { λ r. ⌜ r ≡ pairByEnds exact (now (input .entry)) (now (out .entry)) ⌝ }
+{
+    if exact {
+        return Pair::Fit;
+    }
+    if ends_in_return(input) {
+        return Pair::CarriageReturn;
+    }
+    if ends_in_return(out) {
+        return Pair::CarriageReturn;
+    }
+    Pair::Fit
+}
+
+// What two names are. A name has no octet 0; IN has at most 4,095 octets, OUT 4,086, so that the temporary file's name is a path too.
+pub fn judge_pair(input: &[u8], out: &[u8], exact: bool) -> Pair
+    ensures { λ r. ⌜ r ≡ pairOf exact (now (input .entry)) (now (out .entry)) ⌝ }
+{
+    if input.len() == 0 {
+        return Pair::NoName;
+    }
+    if out.len() == 0 {
+        return Pair::NoName;
+    }
+    if before(input, 0) < input.len() {
+        return Pair::ZeroOctet;
+    }
+    if before(out, 0) < out.len() {
+        return Pair::ZeroOctet;
+    }
+    if 4095 < input.len() {
+        return Pair::TooLong;
+    }
+    if 4086 < out.len() {
+        return Pair::TooLong;
+    }
+    judge_ends(input, out, exact)
+}
+
+// What came of a filing, or of all of them: all filed, some refused or short, trouble with some.
+pub enum Outcome {
+    Filed,
+    Refused,
+    Trouble,
+}
+
+// What came of all, where some were refused.
+fn refused_or(other: Outcome) -> Outcome
+    ensures { λ r. ⌜ r ≡ refusedOr other ⌝ }
+{
+    match other {
+        Outcome::Filed => Outcome::Refused,
+        Outcome::Refused => Outcome::Refused,
+        Outcome::Trouble => Outcome::Trouble,
+    }
+}
+
+// What came of all, of what came of two parts of them.
+pub fn worse(one: Outcome, other: Outcome) -> Outcome
+    ensures { λ r. ⌜ r ≡ worseOf one other ⌝ }
+{
+    match one {
+        Outcome::Filed => other,
+        Outcome::Refused => refused_or(other),
+        Outcome::Trouble => Outcome::Trouble,
+    }
+}
+
+// The digit that tells what came of all: 0, 1 or 2, as text.
+pub fn digit(outcome: Outcome) -> u8
+    ensures { λ r. ⌜ r ≡ digitOf outcome ⌝ }
+{
+    match outcome {
+        Outcome::Filed => b'0',
+        Outcome::Refused => b'1',
+        Outcome::Trouble => b'2',
+    }
 }
 
 // The place behind an octet that is a slash, or what was found before.

@@ -1,16 +1,21 @@
 // gir_file: files the sheet of an attribute area. `gir_file IN OUT` takes IN, a kind octet, a flags octet and an area, and makes its sheet
-// stand at OUT; `gir_file -` does so for each line `IN<TAB>OUT` of standard input. Each gets one line of answer: `filed N`, `refused N S`,
-// `short` or `trouble STEP`, and standard error says why. Here a step is performed; which one comes then, `filing::next` decides.
+// stand at OUT; `gir_file -` does so for each line `IN<TAB>OUT` of standard input, `gir_file -z` for each two names there, with an octet 0
+// behind each. Each gets one line of answer: `filed N`, `refused N S`, `short` or `trouble STEP`, and standard error says why. With
+// `--status` before these, the last act is to write a digit to descriptor 3: 0 each sheet was filed, 1 some were refused or short, 2 there
+// was trouble. Here a step is performed; which one comes then, `filing::next` decides.
 use desk::Reading;
 use desk::Refusal;
 use desk::Writing;
 use filing::Answer;
 use filing::Line;
+use filing::Outcome;
+use filing::Pair;
 use filing::Step;
 use libc::STDERR_FILENO;
 use libc::STDIN_FILENO;
 use libc::STDOUT_FILENO;
 use lines::Text;
+ghost use Prim.Native.Nat.{_≤_};
 
 // Room for kind octet, flags octet and area: the 4,077th octet of an area is enough to know that it is too long.
 const PAYLOAD: usize = 3 + desk::LONGEST_AREA;
@@ -18,14 +23,23 @@ const PAYLOAD: usize = 3 + desk::LONGEST_AREA;
 // Room for the longest sheet as it is read back, and for one octet more than it should have.
 const READ_BACK: usize = 1 + desk::LONGEST_SHEET;
 
+// The descriptor that a status is written to.
+const STATUS_FILENO: i32 = 3;
+
+// An answer line, and what it tells.
+struct Said {
+    line: Text,
+    outcome: Outcome,
+}
+
 // What a run carries from step to step: the descriptor that is open, the octets taken, the octets of the whole of IN, the octets of the
-// sheet, and the answer line, once something has failed.
+// sheet, and the answer, once something has failed.
 struct Work {
     fd: i32,
     kept: usize,
     all: u64,
     sheet: usize,
-    said: Text,
+    said: Said,
 }
 
 // A step's answer, and what is carried on.
@@ -53,10 +67,11 @@ enum Counted {
     Failed,
 }
 
-// What stands at a path: nothing, a link, something else, or the system does not say.
+// What stands at a path: nothing, a link, a folder, something else, or the system does not say.
 enum AtPath {
     Nothing,
     Link,
+    Folder,
     Other,
     Unknown,
 }
@@ -74,7 +89,7 @@ enum Fed {
     Failed,
 }
 
-// The next line of standard input: its octets, or that it has no line feed, or that there is none.
+// The next line or name of standard input: its octets, or that what ends it is missing, or that there is none.
 enum Lined {
     Whole { len: usize, feed: Feed },
     Cut,
@@ -82,24 +97,50 @@ enum Lined {
     Failed,
 }
 
+// How it goes on behind an answer: standard output took it, or takes no more.
+enum Told {
+    On(Outcome),
+    Stop,
+}
+
+// How it goes on behind two names of standard input: with what stands behind them, or not at all.
+enum Turn {
+    On { outcome: Outcome, feed: Feed },
+    Over(Outcome),
+}
+
 // ---- What is said
 
-fn trouble(word: &[u8]) -> Text {
-    lines::with(
-        lines::with(lines::with(lines::nothing(), b"trouble "), word),
-        b"\n",
-    )
+fn trouble(word: &[u8]) -> Said {
+    let line = lines::with(lines::with(lines::nothing(), b"trouble "), word);
+    Said {
+        line: lines::with(line, b"\n"),
+        outcome: Outcome::Trouble,
+    }
 }
 
-fn filed(sheet: usize) -> Text {
+fn filed(sheet: usize) -> Said {
     let word = lines::with(lines::nothing(), b"filed ");
-    lines::with(lines::with_decimal(word, sheet as u64), b"\n")
+    Said {
+        line: lines::with(lines::with_decimal(word, sheet as u64), b"\n"),
+        outcome: Outcome::Filed,
+    }
 }
 
-// The line of a refusal of an IN that has so many octets, of which only a part was kept.
-fn refused(refusal: Refusal, all: u64) -> Text {
+fn short() -> Said {
+    Said {
+        line: lines::with(lines::nothing(), b"short\n"),
+        outcome: Outcome::Refused,
+    }
+}
+
+// The refusal of an IN that has so many octets, of which only a part was kept.
+fn refused(refusal: Refusal, all: u64) -> Said {
     let second = lines::second_told(refusal.number, refusal.second as u64, all);
-    lines::refusal(refusal.number, second)
+    Said {
+        line: lines::refusal(refusal.number, second),
+        outcome: Outcome::Refused,
+    }
 }
 
 // Says on standard error which step failed, at which file, and the system's reason.
@@ -121,14 +162,16 @@ fn complain(word: &[u8], name: &[u8], reason: &[u8]) {
     io::write_all(STDERR_FILENO, b"\n");
 }
 
-// Writes an answer line; whether standard output took it.
-fn print(line: Text) -> bool {
+// Writes an answer's line.
+fn print(said: Said) -> Told {
+    let line = said.line;
+    let outcome = said.outcome;
     let text = line.octets;
     if io::write_all(STDOUT_FILENO, octets::part(&text, 0, line.len)) {
-        return true;
+        return Told::On(outcome);
     }
     fail(b"answer", b"standard output");
-    false
+    Told::Stop
 }
 
 // ---- How a step went
@@ -140,8 +183,8 @@ fn well(work: Work) -> Done {
     }
 }
 
-// A step that went badly, with the answer line.
-fn badly(mut work: Work, said: Text) -> Done {
+// A step that went badly, with the answer.
+fn badly(mut work: Work, said: Said) -> Done {
     work.said = said;
     Done {
         answer: Answer::Badly,
@@ -161,7 +204,7 @@ fn wrong(work: Work, word: &[u8], name: &[u8], reason: &[u8]) -> Done {
     badly(work, trouble(word))
 }
 
-// A step that clears up; where it fails, the answer line stays what it is.
+// A step that clears up; where it fails, the answer stays what it is.
 fn cleared(ok: bool, work: Work, word: &[u8], name: &[u8]) -> Done {
     if ok {
         return well(work);
@@ -277,7 +320,7 @@ fn take(input: &[u8], payload: &mut [u8], mut work: Work) -> Done {
 // Read: the sheet of the area.
 fn make_sheet(taken: &[u8], sheet: &mut [u8], mut work: Work) -> Done {
     if taken.len() < 2 {
-        return badly(work, lines::with(lines::nothing(), b"short\n"));
+        return badly(work, short());
     }
     let kind = octets::wide32(taken[0]);
     let flags = octets::wide32(taken[1]);
@@ -319,6 +362,19 @@ fn ended(path: &[u8]) -> [u8; 4096] {
     text
 }
 
+// Whether a folder stands at a path that is no link. Only the words of a message depend on it. What is behind a slash is a folder's own
+// name in a folder, and in anything else there is none.
+fn is_folder(path: &[u8]) -> bool {
+    let mut text = ended(path);
+    octets::copy_at(&mut text, path.len(), b"/.");
+    text[4095] = 0;
+    let mut link = [0u8; 1];
+    if libc::readlink(&text, &mut link) >= 0 {
+        return false;
+    }
+    os::errno() == libc::EINVAL
+}
+
 // What stands at a path. The question is put by `readlink`, which follows no link: EINVAL is its answer for what is no link.
 fn what_stands(path: &[u8]) -> AtPath {
     let mut text = ended(path);
@@ -333,6 +389,9 @@ fn what_stands(path: &[u8]) -> AtPath {
         return AtPath::Nothing;
     }
     if error == libc::EINVAL {
+        if is_folder(path) {
+            return AtPath::Folder;
+        }
         return AtPath::Other;
     }
     AtPath::Unknown
@@ -343,6 +402,7 @@ fn look(out: &[u8], work: Work) -> Done {
     match what_stands(out) {
         AtPath::Nothing => well(work),
         AtPath::Link => wrong(work, b"out", out, b"a link of this name stands already"),
+        AtPath::Folder => wrong(work, b"out", out, b"a folder of this name stands already"),
         AtPath::Other => wrong(work, b"out", out, b"a file of this name stands already"),
         AtPath::Unknown => failed(work, b"out", out),
     }
@@ -530,8 +590,8 @@ fn perform(
     }
 }
 
-// Files one sheet, step by step, and tells its answer line.
-fn file(input: &[u8], out: &[u8], temp: &[u8]) -> Text {
+// Files one sheet, step by step, and tells its answer.
+fn file(input: &[u8], out: &[u8], temp: &[u8]) -> Said {
     let mut payload = [0u8; PAYLOAD];
     let mut sheet = [0u8; desk::LONGEST_SHEET];
     let mut work = Work {
@@ -539,7 +599,10 @@ fn file(input: &[u8], out: &[u8], temp: &[u8]) -> Text {
         kept: 0,
         all: 0,
         sheet: 0,
-        said: lines::nothing(),
+        said: Said {
+            line: lines::nothing(),
+            outcome: Outcome::Trouble,
+        },
     };
     let mut step = Step::Take;
     while filing::steps_left(step) > 0 {
@@ -555,44 +618,76 @@ fn file(input: &[u8], out: &[u8], temp: &[u8]) -> Text {
     work.said
 }
 
-// Files the sheet of IN at OUT and prints the answer; whether standard output took it.
-fn answer(input: &[u8], out: &[u8]) -> bool {
+// Files the sheet of IN at OUT and prints the answer.
+fn answer(input: &[u8], out: &[u8]) -> Told {
     let mut name = io::buffer();
     let n = filing::temporary(out, &mut name);
-    if n == 0 {
-        complain(b"names", out, b"the name is too long");
-        return print(trouble(b"names"));
-    }
     print(file(input, out, octets::part(&name, 0, n)))
 }
 
-// ---- One pair of names, or a list
+// ---- Two names
 
-// Says what is wrong with a line of the list, and answers it; whether standard output took the answer.
-fn no_names(line: &[u8], reason: &[u8]) -> bool {
-    complain(b"names", line, reason);
+// Says what is wrong with a line or a name, and answers it.
+fn no_names(name: &[u8], reason: &[u8]) -> Told {
+    complain(b"names", name, reason);
     print(trouble(b"names"))
 }
 
+// Answers two names of which one is empty.
+fn no_name(input: &[u8], out: &[u8]) -> Told {
+    if input.len() == 0 {
+        return no_names(out, b"an empty name");
+    }
+    no_names(input, b"an empty name")
+}
+
+// A name without its last octet.
+fn but_last(name: &[u8]) -> &[u8] {
+    if name.len() == 0 {
+        return name;
+    }
+    octets::part(name, 0, name.len() - 1)
+}
+
+// Answers two names of which one ends in a carriage return. The message is without it, since it would hide what stands before it.
+fn returned(input: &[u8], out: &[u8]) -> Told {
+    let reason = b"a name ends in a carriage return, as in a list with CR LF line ends";
+    if filing::ends_in_return(out) {
+        return no_names(but_last(out), reason);
+    }
+    no_names(but_last(input), reason)
+}
+
+// Answers two names, which may end in a carriage return where they come exactly.
+fn answer_pair(input: &[u8], out: &[u8], exact: bool) -> Told {
+    match filing::judge_pair(input, out, exact) {
+        Pair::Fit => answer(input, out),
+        Pair::NoName => no_name(input, out),
+        Pair::ZeroOctet => no_names(input, b"an octet 0 in a name"),
+        Pair::TooLong => no_names(b"IN or OUT", b"a name is too long"),
+        Pair::CarriageReturn => returned(input, out),
+    }
+}
+
 // Answers a line of the list.
-fn record(line: &[u8]) -> bool {
+fn record(line: &[u8]) -> Told {
     match filing::split(line) {
         Line::Names(tab) => {
             if tab < line.len() {
-                return answer(
+                return answer_pair(
                     octets::part(line, 0, tab),
                     octets::part(line, tab + 1, line.len()),
+                    false,
                 );
             }
-            return false;
+            return Told::Stop;
         }
         Line::NoTab => no_names(line, b"no tab stands between two names"),
         Line::TwoTabs => no_names(line, b"more than one tab"),
-        Line::NoName => no_names(line, b"an empty name"),
-        Line::ZeroOctet => no_names(line, b"an octet 0 in a name"),
-        Line::TooLong => no_names(b"a line", b"a name is too long"),
     }
 }
+
+// ---- Names from standard input
 
 // The next octet of standard input, read ahead by the buffer's length.
 fn octet(buf: &mut [u8], feed: Feed) -> Fed {
@@ -620,16 +715,16 @@ fn octet(buf: &mut [u8], feed: Feed) -> Fed {
     }
 }
 
-// The next line of standard input, without its line feed. Of a line that is longer than there is room, and so names no two files, the
-// first octets are kept.
-fn next_line(buf: &mut [u8], start: Feed, line: &mut [u8]) -> Lined {
+// The next octets of standard input up to the octet that ends them, and without it. Of those that are more than there is room, and so no
+// names, the first are kept.
+fn next_line(buf: &mut [u8], start: Feed, line: &mut [u8], end: u8) -> Lined {
     let mut feed = start;
     let mut len: usize = 0;
     let mut turns = u64::MAX;
     while turns > 0 {
         match octet(buf, feed) {
             Fed::Octet { value, feed: then } => {
-                if value == b'\n' {
+                if value == end {
                     return Lined::Whole { len, feed: then };
                 }
                 len = put(line, len, &[value]);
@@ -650,85 +745,162 @@ fn next_line(buf: &mut [u8], start: Feed, line: &mut [u8]) -> Lined {
     Lined::Failed
 }
 
-// Answers the lines of standard input, one by one, until it ends or standard output takes no more.
-fn answer_all() {
+// Behind an answer it goes on, as long as standard output takes them.
+fn onward(told: Told, feed: Feed) -> Turn {
+    match told {
+        Told::On(outcome) => Turn::On { outcome, feed },
+        Told::Stop => Turn::Over(Outcome::Trouble),
+    }
+}
+
+// The last that is there names no two files.
+fn cut(name: &[u8], reason: &[u8]) -> Turn {
+    no_names(name, reason);
+    Turn::Over(Outcome::Trouble)
+}
+
+// Standard input cannot be read.
+fn unread() -> Turn {
+    fail(b"names", b"standard input");
+    Turn::Over(Outcome::Trouble)
+}
+
+// Answers the next line.
+fn line_turn(buf: &mut [u8], start: Feed, line: &mut [u8]) -> Turn {
+    match next_line(buf, start, line, b'\n') {
+        Lined::Whole { len, feed } => onward(record(octets::part(line, 0, len)), feed),
+        Lined::Cut => cut(b"the last line", b"it has no line feed"),
+        Lined::End => Turn::Over(Outcome::Filed),
+        Lined::Failed => unread(),
+    }
+}
+
+// Answers an IN and the OUT that comes next.
+fn out_turn(buf: &mut [u8], start: Feed, input: &[u8], out: &mut [u8]) -> Turn {
+    match next_line(buf, start, out, 0) {
+        Lined::Whole { len, feed } => {
+            onward(answer_pair(input, octets::part(out, 0, len), true), feed)
+        }
+        Lined::Cut => cut(b"the last name", b"it has no octet 0 behind it"),
+        Lined::End => cut(b"the last name", b"it is an IN without OUT"),
+        Lined::Failed => unread(),
+    }
+}
+
+// Answers the next two names, each with an octet 0 behind it.
+fn pair_turn(buf: &mut [u8], start: Feed, input: &mut [u8], out: &mut [u8]) -> Turn {
+    match next_line(buf, start, input, 0) {
+        Lined::Whole { len, feed } => out_turn(buf, feed, octets::part(input, 0, len), out),
+        Lined::Cut => cut(b"the last name", b"it has no octet 0 behind it"),
+        Lined::End => Turn::Over(Outcome::Filed),
+        Lined::Failed => unread(),
+    }
+}
+
+// Answers the next line, or the next two names where they come exactly.
+fn next_turn(buf: &mut [u8], feed: Feed, line: &mut [u8], out: &mut [u8], exact: bool) -> Turn {
+    if exact {
+        return pair_turn(buf, feed, line, out);
+    }
+    line_turn(buf, feed, line)
+}
+
+// Answers the names of standard input, until it ends or standard output takes no more.
+fn answer_all(exact: bool) -> Outcome {
     let mut space = io::large_buffer();
     let buf: &mut [u8] = &mut space;
     let mut text = [0u8; 8192];
     let line: &mut [u8] = &mut text;
+    let mut name = io::buffer();
+    let out: &mut [u8] = &mut name;
     let mut feed = Feed { at: 0, have: 0 };
+    let mut so_far = Outcome::Filed;
     let mut turns = u64::MAX;
     while turns > 0 {
-        match next_line(buf, feed, line) {
-            Lined::Whole { len, feed: then } => {
-                if !record(octets::part(line, 0, len)) {
-                    return;
-                }
+        match next_turn(buf, feed, line, out, exact) {
+            Turn::On {
+                outcome,
+                feed: then,
+            } => {
+                so_far = filing::worse(so_far, outcome);
                 feed = then;
                 turns -= 1;
             }
-            Lined::Cut => {
-                no_names(b"the last line", b"it has no line feed");
-                return;
-            }
-            Lined::End => {
-                return;
-            }
-            Lined::Failed => {
-                fail(b"names", b"standard input");
-                return;
+            Turn::Over(outcome) => {
+                return filing::worse(so_far, outcome);
             }
         }
     }
+    Outcome::Trouble
 }
 
-// Files the sheet of the first argument at the second.
-fn answer_arguments() {
+// ---- The arguments
+
+// What came of one answer.
+fn outcome_of(told: Told) -> Outcome {
+    match told {
+        Told::On(outcome) => outcome,
+        Told::Stop => Outcome::Trouble,
+    }
+}
+
+// Files the sheet of an argument at the next.
+fn answer_arguments(first: usize) -> Outcome
+    requires { ⌜ first ≤ 2 ⌝ }
+{
     let mut input = io::buffer();
-    let n = os::arg(1, &mut input);
+    let n = os::arg(first, &mut input);
     if os::errno() != 0 {
         fail(b"names", b"IN");
-        print(trouble(b"names"));
-        return;
+        return outcome_of(print(trouble(b"names")));
     }
     let mut out = io::buffer();
-    let m = os::arg(2, &mut out);
+    let m = os::arg(first + 1, &mut out);
     if os::errno() != 0 {
         fail(b"names", b"OUT");
-        print(trouble(b"names"));
-        return;
+        return outcome_of(print(trouble(b"names")));
     }
-    if (n == 0) | (m == 0) {
-        no_names(b"IN, OUT", b"an empty name");
-        return;
-    }
-    answer(octets::part(&input, 0, n), octets::part(&out, 0, m));
+    outcome_of(answer_pair(octets::part(&input, 0, n), octets::part(&out, 0, m), false))
 }
 
-// Whether the only argument asks for a list.
-fn is_list() -> bool {
-    let mut word = [0u8; 2];
-    let n = os::arg(1, &mut word);
+// Whether an argument is a word of at most eight octets.
+fn is_word(i: usize, word: &[u8]) -> bool {
+    let mut space = [0u8; 8];
+    let n = os::arg(i, &mut space);
     if os::errno() != 0 {
         return false;
     }
-    filing::equal(octets::part(&word, 0, n), b"-")
+    filing::equal(octets::part(&space, 0, n), word)
 }
 
-fn main() {
+// Does what the arguments ask, of which so many stand before the names.
+fn answer_asked(before: usize) -> Outcome
+    requires { ⌜ before ≤ 2 ⌝ }
+{
     let args = os::arg_count();
-    if args == 3 {
-        answer_arguments();
-        return;
+    if args == before + 2 {
+        return answer_arguments(before);
     }
-    if args == 2 {
-        if is_list() {
-            answer_all();
-            return;
+    if args == before + 1 {
+        if is_word(before, b"-") {
+            return answer_all(false);
+        }
+        if is_word(before, b"-z") {
+            return answer_all(true);
         }
     }
     io::write_all(
         STDERR_FILENO,
-        b"gir_file: IN and OUT, or - and a list on standard input\n",
+        b"gir_file: [--status] IN and OUT, or - or -z and names on standard input\n",
     );
+    Outcome::Trouble
+}
+
+fn main() {
+    if is_word(1, b"--status") {
+        let outcome = answer_asked(2);
+        io::write_all(STATUS_FILENO, &[filing::digit(outcome)]);
+        return;
+    }
+    answer_asked(1);
 }

@@ -6,10 +6,10 @@ use Rattle.gir_file.proofs.next_line.Statement.{statement}
 use Rattle.gir_file.proofs.next_line.Tie as tie
 
 abbrev Inv-loop : tie.InvT-loop
-Inv-loop buf₀ line₀ feed₀ len₀ turns₀ buf line feed len turns = (length buf ≡ length buf₀) × (length line ≡ length line₀)
+Inv-loop buf₀ line₀ end feed₀ len₀ turns₀ buf line feed len turns = (length buf ≡ length buf₀) × (length line ≡ length line₀)
 
 abbrev μ-loop : tie.MeasureT-loop
-μ-loop buf₀ line₀ feed₀ len₀ turns₀ buf line feed len turns = turns
+μ-loop buf₀ line₀ end feed₀ len₀ turns₀ buf line feed len turns = turns
 
 loop-holds : tie.Need-loop-holds Inv-loop μ-loop
 loop-holds c = search needs
