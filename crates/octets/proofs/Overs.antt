@@ -290,13 +290,15 @@ pub laid-there : (at : ℕ) (s d p : List ℕ) → at + length s ≤ length d �
     → Laid at s d true (putMid at (length d - at) d p)
 laid-there at s d p h q = laid-part at s d (length s) _ refl refl p (le-leb (at + length s) (length d) h) q
 
--- What was copied over the start of a lent part with room for it, by the promise of the kit's `bytes::copy`, said of the whole buffer.
+-- What was copied over the start of a buffer, by the promise of the kit's `bytes::copy`, is laid there.
+pub copied-over : (s d p : List ℕ) → p ≡ take (length s) s ++ drop (length s) d → p ≡ over s d
+unfolding over
+copied-over s d p q = q ∙ ap (λ (r : List ℕ). r ++ drop (length s) d) (take-length s)
+
+-- So it is over a lent part with room for it, said of the whole buffer.
 pub copied-there : (at : ℕ) (s d p : List ℕ) → at + length s ≤ length d
     → p ≡ take (length s) s ++ drop (length s) (take (length d - at) (drop at d)) → putMid at (length d - at) d p ≡ laidAt at s d
-unfolding over
-copied-there at s d p h q =
-    let whole : take (length s) s ≡ s = take-all (length s) s (omega arith) in
-    laid-there at s d p h (q ∙ ap (λ (r : List ℕ). r ++ drop (length s) (take (length d - at) (drop at d))) whole) .holds
+copied-there at s d p h q = laid-there at s d p h (copied-over s (take (length d - at) (drop at d)) p q) .holds
 
 -- Any two answers that a writer's promise permits are the same, the buffer included.
 pub one-laid : (at : ℕ) (s d : List ℕ) (said said′ : Bool) (held held′ : List ℕ) → Laid at s d said held → Laid at s d said′ held′

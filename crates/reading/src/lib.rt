@@ -223,7 +223,7 @@ fn hand_over(kind: u32, flags: u32, count: usize, items: &[u8], sheet: &mut [u8]
     }
     let head = sheet_head(kind, flags, count);
     octets::copy_at(sheet, 0, &head);
-    octets::copy_at(sheet, 9, items);
+    bytes::copy(items, &mut sheet[9..]);
     Reading::Sheet(needed)
 }
 

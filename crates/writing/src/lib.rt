@@ -429,7 +429,7 @@ fn hand_over(said: Judgement, made: &[u8], area: &mut [u8]) -> Writing
                     second: size,
                 });
             }
-            octets::copy_at(area, 0, &made[..size]);
+            bytes::copy(&made[..size], area);
             return Writing::Area {
                 length: size,
                 kind,
