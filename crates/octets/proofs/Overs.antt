@@ -3,7 +3,7 @@ use mathlib.Core.Path.{_≡_, refl, sym, ap, _∙_}
 use mathlib.Core.Bool.{Bool, true, false, cond}
 use mathlib.Core.List.{List, [], _∷_, _++_, append-assoc, append-nil}
 use Prim.Native.Nat.{ℕ, zero, suc, _+_, _-_, _<_, _≤_}
-use native.Mathlib.Nat.{add-zero}
+use native.Mathlib.Nat.{add-zero, add-sub-cancel-left}
 use native.Mathlib.Numerals.{add-one}
 use native.Mathlib.Omega.{arith}
 use borrow.Author.Tests.{le-leb, lt-leb, leb-true, leb-false}
@@ -146,6 +146,21 @@ laid-length at s d = go (fitsAt at s d) refl
 -- At the start it is `over`.
 pub laid-first : (s d : List ℕ) → length s ≤ length d → laidAt 0 s d ≡ over s d
 laid-first s d h = laid-fits 0 s d (omega arith)
+
+-- As long as the buffer, they are all that it holds.
+pub laid-whole : (s d : List ℕ) → length s ≡ length d → laidAt 0 s d ≡ s
+unfolding over
+laid-whole s d e =
+    laid-first s d (omega arith) ∙ ap (λ (r : List ℕ). s ++ r) (drop-of-length-le d {i = length s} (omega arith)) ∙ append-nil s
+
+-- So is a part of a slice, taken from a place to another, in an array of its length.
+pub laid-part-whole : (l d out : List ℕ) (at n : ℕ) → at + n ≤ length l → length d ≡ n → out ≡ laidAt 0 (take (at + n - at) (drop at l)) d
+    → out ≡ partOf l at n
+unfolding partOf
+laid-part-whole l d out at n h e q =
+    let part : take (at + n - at) (drop at l) ≡ take n (drop at l) = rw (add-sub-cancel-left at n) in
+    let size : length (take n (drop at l)) ≡ n = length-take-le n (drop at l) (omega (arith, length-drop at l)) in
+    q ∙ ap (λ (s : List ℕ). laidAt 0 s d) part ∙ laid-whole (take n (drop at l)) d (omega arith)
 
 -- Laid right behind what a buffer holds already, both stand there, one behind the other.
 pub laid-behind : (s t d held : List ℕ) (at : ℕ) → length s ≡ at → held ≡ over s d → at + length t ≤ length d

@@ -94,7 +94,7 @@ fn put_part(buf: &mut [u8], at: usize, form: u8, rest: &[u8], len: usize) -> usi
     if len <= 16 {
         octets::copy_sixteen(buf, at, rest);
     } else {
-        octets::copy_at(buf, at, &rest[..len]);
+        octets::copy_long(buf, at, &rest[..len]);
     }
     len
 }

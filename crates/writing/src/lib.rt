@@ -213,7 +213,7 @@ fn put_raw(
     if size <= 16 {
         octets::copy_sixteen(buf, at, rest);
     } else {
-        octets::copy_at(buf, at, &rest[..size]);
+        octets::copy_long(buf, at, &rest[..size]);
     }
     Put::Octets(size)
 }
