@@ -3,7 +3,7 @@ use mathlib.Core.Path.{_≡_, refl, sym, ap, _∙_}
 use mathlib.Core.Bool.{Bool, true, false, cond}
 use mathlib.Core.List.{List, [], _∷_, _++_, append-assoc, append-nil}
 use Prim.Native.Nat.{ℕ, zero, suc, _+_, _-_, _<_, _≤_}
-use native.Mathlib.Nat.{add-zero}
+use native.Mathlib.Nat.{add-zero, add-sub-cancel-left}
 use native.Mathlib.Numerals.{add-one}
 use native.Mathlib.Omega.{arith}
 use borrow.Author.Tests.{le-leb, lt-leb, leb-true, leb-false}
@@ -146,6 +146,21 @@ laid-length at s d = go (fitsAt at s d) refl
 -- At the start it is `over`.
 pub laid-first : (s d : List ℕ) → length s ≤ length d → laidAt 0 s d ≡ over s d
 laid-first s d h = laid-fits 0 s d (omega arith)
+
+-- As long as the buffer, they are all that it holds.
+pub laid-whole : (s d : List ℕ) → length s ≡ length d → laidAt 0 s d ≡ s
+unfolding over
+laid-whole s d e =
+    laid-first s d (omega arith) ∙ ap (λ (r : List ℕ). s ++ r) (drop-of-length-le d {i = length s} (omega arith)) ∙ append-nil s
+
+-- So is a part of a slice, taken from a place to another, in an array of its length.
+pub laid-part-whole : (l d out : List ℕ) (at n : ℕ) → at + n ≤ length l → length d ≡ n → out ≡ laidAt 0 (take (at + n - at) (drop at l)) d
+    → out ≡ partOf l at n
+unfolding partOf
+laid-part-whole l d out at n h e q =
+    let part : take (at + n - at) (drop at l) ≡ take n (drop at l) = rw (add-sub-cancel-left at n) in
+    let size : length (take n (drop at l)) ≡ n = length-take-le n (drop at l) (omega (arith, length-drop at l)) in
+    q ∙ ap (λ (s : List ℕ). laidAt 0 s d) part ∙ laid-whole (take n (drop at l)) d (omega arith)
 
 -- Laid right behind what a buffer holds already, both stand there, one behind the other.
 pub laid-behind : (s t d held : List ℕ) (at : ℕ) → length s ≡ at → held ≡ over s d → at + length t ≤ length d
@@ -290,13 +305,15 @@ pub laid-there : (at : ℕ) (s d p : List ℕ) → at + length s ≤ length d �
     → Laid at s d true (putMid at (length d - at) d p)
 laid-there at s d p h q = laid-part at s d (length s) _ refl refl p (le-leb (at + length s) (length d) h) q
 
--- What was copied over the start of a lent part with room for it, by the promise of the kit's `bytes::copy`, said of the whole buffer.
+-- What was copied over the start of a buffer, by the promise of the kit's `bytes::copy`, is laid there.
+pub copied-over : (s d p : List ℕ) → p ≡ take (length s) s ++ drop (length s) d → p ≡ over s d
+unfolding over
+copied-over s d p q = q ∙ ap (λ (r : List ℕ). r ++ drop (length s) d) (take-length s)
+
+-- So it is over a lent part with room for it, said of the whole buffer.
 pub copied-there : (at : ℕ) (s d p : List ℕ) → at + length s ≤ length d
     → p ≡ take (length s) s ++ drop (length s) (take (length d - at) (drop at d)) → putMid at (length d - at) d p ≡ laidAt at s d
-unfolding over
-copied-there at s d p h q =
-    let whole : take (length s) s ≡ s = take-all (length s) s (omega arith) in
-    laid-there at s d p h (q ∙ ap (λ (r : List ℕ). r ++ drop (length s) (take (length d - at) (drop at d))) whole) .holds
+copied-there at s d p h q = laid-there at s d p h (copied-over s (take (length d - at) (drop at d)) p q) .holds
 
 -- Any two answers that a writer's promise permits are the same, the buffer included.
 pub one-laid : (at : ℕ) (s d : List ℕ) (said said′ : Bool) (held held′ : List ℕ) → Laid at s d said held → Laid at s d said′ held′

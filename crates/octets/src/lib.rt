@@ -246,6 +246,51 @@ pub fn copy_at(buf: &mut [u8], at: usize, src: &[u8]) -> bool
     true
 }
 
+// Copies the 64 octets of `src` at a place, where those before it are copied. They go through an array, so that they can go as one.
+fn copy_block(buf: &mut [u8], src: &[u8], at: usize)
+    requires { ⌜ Overlaid (now src) (now buf) (now buf) at × (at + 64 ≤ length (now src)) ⌝ }
+    ensures { λ _. ⌜ Overlaid (now (src .entry)) (now (buf .entry)) (now (buf .exit)) (at + 64) ⌝ }
+{
+    let end = at + 64;
+    let mut block = [0u8; 64];
+    lay_at(&mut block, 0, &src[at..end]);
+    lay_at(buf, at, &block);
+}
+
+// Copies `src` over the start of `buf`, by blocks of 64 octets, the last of which may hold some that are copied already; fewer octets
+// than a block has by eights.
+fn copy_blocks(buf: &mut [u8], src: &[u8])
+    requires { ⌜ length (now src) ≤ length (now buf) ⌝ }
+    ensures { λ _. ⌜ now (buf .exit) ≡ over (now (src .entry)) (now (buf .entry)) ⌝ }
+{
+    if src.len() < 64 {
+        copy(buf, src);
+        return;
+    }
+    let last = src.len() - 64;
+    let mut i: usize = 0;
+    while i < last {
+        copy_block(buf, src, i);
+        i += 64;
+    }
+    copy_block(buf, src, last);
+}
+
+// The same as `copy_at`, faster where `src` may be long.
+pub fn copy_long(buf: &mut [u8], at: usize, src: &[u8]) -> bool
+    ensures { λ r. ⌜ Laid at (now (src .entry)) (now (buf .entry)) r (now (buf .exit)) ⌝ }
+{
+    if buf.len() < at {
+        return false;
+    }
+    let room = buf.len() - at;
+    if room < src.len() {
+        return false;
+    }
+    copy_blocks(&mut buf[at..], src);
+    true
+}
+
 // Copies the first sixteen octets of `src`, or as many as it has, over `buf` from the place `at` on and says true, if they fit; else
 // changes nothing and says false. Sixteen go at once.
 pub fn copy_sixteen(buf: &mut [u8], at: usize, src: &[u8]) -> bool

@@ -94,7 +94,7 @@ fn put_part(buf: &mut [u8], at: usize, form: u8, rest: &[u8], len: usize) -> usi
     if len <= 16 {
         octets::copy_sixteen(buf, at, rest);
     } else {
-        octets::copy_at(buf, at, &rest[..len]);
+        octets::copy_long(buf, at, &rest[..len]);
     }
     len
 }
@@ -223,7 +223,7 @@ fn hand_over(kind: u32, flags: u32, count: usize, items: &[u8], sheet: &mut [u8]
     }
     let head = sheet_head(kind, flags, count);
     octets::copy_at(sheet, 0, &head);
-    octets::copy_at(sheet, 9, items);
+    bytes::copy(items, &mut sheet[9..]);
     Reading::Sheet(needed)
 }
 

@@ -13,12 +13,10 @@ use Rattle.meaning.specs.Refusals as book
 use Rattle.meaning.specs.Refusals.{none, refusal, fault, tooShort, sheetRefusal}
 use Rattle.meaning.specs.Sheet.{itemsIn, kindIn, flagsIn, areaIn, marked, judged}
 use Rattle.meaning.specs.Answers as meant
-use Rattle.meaning.specs.Answers.{unless, after, writeAnswer, areaAnswer}
+use Rattle.meaning.specs.Answers.{unless, over, after, writeAnswer, areaAnswer}
 use Rattle.meaning.proofs.Tests.{parts, passes}
 use Rattle.meaning.proofs.Sheets.{unrefused}
-use Rattle.octets.specs.Parts.{laidAt}
 use Rattle.octets.specs.Handing.{handing, Handed}
-use Rattle.octets.proofs.Overs.{laid-first}
 use Rattle.octets.proofs.Handing.{handed-not, handed-over}
 use Rattle.area.specs.declared.Refusal.{Refusal}
 use Rattle.writing.specs.declared.Front.{Front}
@@ -126,15 +124,16 @@ module _ (j : Judgement) (made d : List ℕ) where
     pub made-long : length (take n made) ≡ n
     made-long = length-take-le n made (omega (arith, size-is j n k f q))
 
+    pub made-fits : n ≤ length d → length (take n made) ≤ length d
+    made-fits h = omega (arith, made-long)
+
     pub over-not : length d < n → HandedOver j made d (Refused (record { number = 25; second = n })) d
     unfolding HandedOver
     over-not h = rw q (rw made-long at (handed-not (areaSaid k f) 25 (take n made) d (omega (arith, made-long))))
 
-    pub over-laid : (out : List ℕ) → n ≤ length d → out ≡ laidAt 0 (take n made) d → HandedOver j made d (Area n k f) out
+    pub over-laid : (out : List ℕ) → n ≤ length d → out ≡ over (take n made) d → HandedOver j made d (Area n k f) out
     unfolding HandedOver
-    over-laid out h e =
-        let room : length (take n made) ≤ length d = omega (arith, made-long) in
-        rw q (rw made-long at (handed-over (areaSaid k f) 25 (take n made) d out room (e ∙ laid-first (take n made) d room)))
+    over-laid out h e = rw q (rw made-long at (handed-over (areaSaid k f) 25 (take n made) d out (made-fits h) e))
 
 -- ---- What is written
 

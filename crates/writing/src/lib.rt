@@ -221,7 +221,7 @@ fn put_raw(
     if size <= 16 {
         octets::copy_sixteen(buf, at, rest);
     } else {
-        octets::copy_at(buf, at, &rest[..size]);
+        octets::copy_long(buf, at, &rest[..size]);
     }
     Put::Octets(size)
 }
@@ -486,7 +486,7 @@ fn hand_over(said: Judgement, made: &[u8], area: &mut [u8]) -> Writing
                     second: size,
                 });
             }
-            octets::copy_at(area, 0, &made[..size]);
+            bytes::copy(&made[..size], area);
             return Writing::Area {
                 length: size,
                 kind,

@@ -29,8 +29,8 @@ put-qos-requires c κs =
 returns-2 : tie.Need-returns-2
 returns-2 c = put-as _ _ _ _ _ _ (part-6 _ _ (c .before .before .before .before .before .before .if1 .left) (c .before .before .before .before .before .if2 .taken)) (c .before .before .put-qos .ensures)
 
-slice-aggregate-copy-at : tie.Need-slice-aggregate-copy-at
-slice-aggregate-copy-at c = sym (length-take-le _ _ (c .before .before .before .before .before .before .before .pre .1 .0))
+slice-aggregate-copy-long : tie.Need-slice-aggregate-copy-long
+slice-aggregate-copy-long c = sym (length-take-le _ _ (c .before .before .before .before .before .before .before .pre .1 .0))
 
 returns-3 : tie.Need-returns-3
 returns-3 c =
@@ -40,7 +40,7 @@ returns-3 c =
 returns-4 : tie.Need-returns-4
 returns-4 c =
     let s = c .before .before .before .before .before .before .before .before .before .before in
-    put-laid _ _ _ _ _ _ (part-plain _ _ (c .before .before .before .before .before .before .before .if1 .left) (c .before .before .before .before .before .before .if2 .left)) (sym (length-take-le _ _ (s .pre .1 .0))) (omega (arith, s .pre .1 .1)) (c .before .before .copy-at .ensures .holds)
+    put-laid _ _ _ _ _ _ (part-plain _ _ (c .before .before .before .before .before .before .before .if1 .left) (c .before .before .before .before .before .before .if2 .left)) (sym (length-take-le _ _ (s .pre .1 .0))) (omega (arith, s .pre .1 .1)) (c .before .before .copy-long .ensures .holds)
 
 pub put-part-spec : {M : Type 1} → statement M
 put-part-spec =
@@ -56,7 +56,7 @@ put-part-spec =
     (λ c. search needs)
     returns-2
     (λ c κs. search needs)
-    slice-aggregate-copy-at
+    slice-aggregate-copy-long
     (λ c κs. search needs)
     (λ c. search needs)
     returns-3

@@ -13,8 +13,8 @@ slice-aggregate-is-raw c = sym (length-take-le _ _ (c .before .before .before .p
 returns : tie.Need-returns
 returns c = laying-none _ _ _ _ _ (sym (c .before .is-raw .ensures) ∙ not-true _ (c .if1 .taken))
 
-slice-aggregate-copy-at : tie.Need-slice-aggregate-copy-at
-slice-aggregate-copy-at c = sym (length-take-le _ _ (c .before .before .before .before .before .before .before .before .pre .0))
+slice-aggregate-copy-long : tie.Need-slice-aggregate-copy-long
+slice-aggregate-copy-long c = sym (length-take-le _ _ (c .before .before .before .before .before .before .before .before .pre .0))
 
 returns-2 : tie.Need-returns-2
 returns-2 c = let p = c .before .before .before .before .before .before .before .before .before .before .pre in
@@ -22,7 +22,7 @@ returns-2 c = let p = c .before .before .before .before .before .before .before 
 
 returns-3 : tie.Need-returns-3
 returns-3 c = let p = c .before .before .before .before .before .before .before .before .before .before .before .pre in
-    raw-alone _ _ _ _ _ _ _ _ (p .0) (p .1) (sym (c .before .before .before .before .before .before .before .is-raw .ensures) ∙ not-false _ (c .before .before .before .before .before .before .if1 .left)) (c .before .before .copy-at .ensures .holds)
+    raw-alone _ _ _ _ _ _ _ _ (p .0) (p .1) (sym (c .before .before .before .before .before .before .before .is-raw .ensures) ∙ not-false _ (c .before .before .before .before .before .before .if1 .left)) (c .before .before .copy-long .ensures .holds)
 
 pub put-raw-spec : {M : Type 1} → statement M
 put-raw-spec =
@@ -32,7 +32,7 @@ put-raw-spec =
     (λ c κs. search needs)
     returns
     (λ c κs. search needs)
-    slice-aggregate-copy-at
+    slice-aggregate-copy-long
     (λ c κs. search needs)
     (λ c. search needs)
     returns-2
