@@ -1,3 +1,5 @@
 pub mod Pieces
 pub mod Lending
 pub mod Shown
+pub mod Whole
+pub mod Cases

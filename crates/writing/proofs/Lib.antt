@@ -6,3 +6,4 @@ pub mod Walking
 pub mod Transcribing
 pub mod Whole
 pub mod Starts
+pub mod Longer
