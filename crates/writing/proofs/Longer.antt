@@ -33,10 +33,17 @@ module _ (ver : Version) where
   whole-more l rest w =
       let more : length (l ++ rest) ≡ length l + length rest = length-append l rest in
       let size : ℕ = 4 + storedLength ver (getD l 2 0) (getD l 3 0) in
-      rw (List·getD-append l rest 0 0 (omega (arith, w .head)), List·getD-append l rest 0 1 (omega (arith, w .head)), List·getD-append l rest 0 2 (omega (arith, w .head)),
-        List·getD-append l rest 0 3 (omega (arith, w .head)), le-ltb (length (l ++ rest)) 4 (omega (arith, w .head)), le-ltb (length l) 4 (w .head),
-        le-ltb (length (l ++ rest)) (4 + storedLength ver (getD l 2 0) (getD l 3 0)) (omega (arith, w .all)), le-ltb (length l) (4 + storedLength ver (getD l 2 0) (getD l 3 0)) (w .all),
-        take-append-le (4 + storedLength ver (getD l 2 0) (getD l 3 0)) l rest (w .all))
+      rw (
+        List·getD-append l rest 0 0 (omega (arith, w .head)),
+        List·getD-append l rest 0 1 (omega (arith, w .head)),
+        List·getD-append l rest 0 2 (omega (arith, w .head)),
+        List·getD-append l rest 0 3 (omega (arith, w .head)),
+        le-ltb (length (l ++ rest)) 4 (omega (arith, w .head)),
+        le-ltb (length l) 4 (w .head),
+        le-ltb (length (l ++ rest)) (4 + storedLength ver (getD l 2 0) (getD l 3 0)) (omega (arith, w .all)),
+        le-ltb (length l) (4 + storedLength ver (getD l 2 0) (getD l 3 0)) (w .all),
+        take-append-le (4 + storedLength ver (getD l 2 0) (getD l 3 0)) l rest (w .all),
+      )
 
   -- an item is whole, or refused by 22
   whole-or-22 : (l : List ℕ) → IsWhole l ⊎ (entered ver l ≡ refused 22)
