@@ -2,7 +2,7 @@
 // buffer, digit strings, and digits two to an octet. Each public function takes any arguments.
 ghost use mathlib.Core.Path.{_≡_};
 ghost use Prim.Native.Nat.{_+_, _*_, _/_, _%_, _^_, _<_, _≤_, min};
-ghost use mathlib.Core.Bool.{true};
+ghost use mathlib.Core.Bool.{true, cond};
 ghost use mathlib.Core.List.{[]};
 ghost use lib.Dec.{eqb, leb};
 ghost use lib.ListN.{length, getD};
@@ -710,15 +710,22 @@ pub fn pack_at(buf: &mut [u8], at: usize, text: &[u8]) -> bool
     true
 }
 
-// The digit that stands for a number's low half, `A` for 10.
+// How much further than the digits the letters stand.
+fn letter_step(half: u8) -> u8
+    ensures { λ r. ⌜ r ≡ cond (leb half 9) 0 7 ⌝ }
+{
+    if half <= 9 {
+        return 0;
+    }
+    7
+}
+
+// The digit that stands for a number's low half, `A` for 10. One sum for both sorts, so that many can be made at once.
 pub fn digit_text(n: u8) -> u8
     ensures { λ r. ⌜ r ≡ digitText (n % 16) ⌝ }
 {
     let half = n % 16;
-    if half <= 9 {
-        return half + 48;
-    }
-    half + 55
+    half + 48 + letter_step(half)
 }
 
 // The halves of `octets` octets, or `count` of them.
