@@ -154,23 +154,6 @@ pub fn steps_left(step: Step) -> usize
     }
 }
 
-// Whether two slices hold the same octets.
-pub fn equal(a: &[u8], b: &[u8]) -> bool
-    ensures { λ r. ⌜ r ≡ same (now (a .entry)) (now (b .entry)) ⌝ }
-{
-    if a.len() != b.len() {
-        return false;
-    }
-    let mut i: usize = 0;
-    while i < a.len() {
-        if a[i] != b[i] {
-            return false;
-        }
-        i += 1;
-    }
-    true
-}
-
 // Whether kind, flags and area are what was taken: a kind octet, a flags octet and an area.
 pub fn came_back(taken: &[u8], kind: u8, flags: u8, area: &[u8]) -> bool
     ensures { λ r. ⌜ r ≡ same (now (taken .entry)) (kind ∷ flags ∷ now (area .entry)) ⌝ }
@@ -184,7 +167,7 @@ pub fn came_back(taken: &[u8], kind: u8, flags: u8, area: &[u8]) -> bool
     if taken[1] != flags {
         return false;
     }
-    equal(&taken[2..], area)
+    octets::equal(&taken[2..], area)
 }
 
 // The octets before the first `x`, or all of them.

@@ -408,7 +408,7 @@ fn is_word(i: usize, word: &[u8]) -> bool {
     if os::errno() != 0 {
         return false;
     }
-    filing::equal(octets::part(&text, 0, n), word)
+    octets::equal(octets::part(&text, 0, n), word)
 }
 
 // Answers where there is no argument behind the first so many; tells the status.

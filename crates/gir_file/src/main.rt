@@ -459,7 +459,7 @@ fn compare(temp: &[u8], sheet: &[u8], work: Work) -> Done {
         return done;
     };
     libc::close(work.fd);
-    if filing::equal(octets::part(&back, 0, n), sheet) {
+    if octets::equal(octets::part(&back, 0, n), sheet) {
         return well(work);
     }
     wrong(
@@ -870,7 +870,7 @@ fn is_word(i: usize, word: &[u8]) -> bool {
     if os::errno() != 0 {
         return false;
     }
-    filing::equal(octets::part(&space, 0, n), word)
+    octets::equal(octets::part(&space, 0, n), word)
 }
 
 // Does what the arguments ask, of which so many stand before the names.

@@ -9,3 +9,4 @@ pub mod Eights
 pub mod Gathering
 pub mod Unpacking
 pub mod Handing
+pub mod Alike

@@ -6,7 +6,8 @@ ghost use mathlib.Core.Bool.{true, cond};
 ghost use mathlib.Core.List.{[]};
 ghost use lib.Dec.{eqb, leb};
 ghost use lib.ListN.{length, getD};
-ghost use Rattle.meaning.specs.Octets.{all, numberOf, octetsOf, pack, unpack, packedLength, isDigit, isHex, digitValue, digitText, text};
+ghost use Rattle.meaning.specs.Octets.{all, same, numberOf, octetsOf, pack, unpack, packedLength};
+ghost use Rattle.meaning.specs.Octets.{isDigit, isHex, digitValue, digitText, text};
 ghost use Rattle.meaning.specs.Answers.{over};
 ghost use Rattle.octets.specs.Parts.{partOf, Numbered, Overlaid, laidAt, Laid};
 ghost use Rattle.octets.specs.DigitStrings.{halves, digitsOf, gatheredOf, gotOf, eightOf, turnedOf, belowTen};
@@ -50,6 +51,23 @@ pub fn octet_at(s: &[u8], at: usize) -> u8
     ensures { λ r. ⌜ r ≡ getD (now (s .entry)) at 0 ⌝ }
 {
     if at < s.len() { s[at] } else { 0 }
+}
+
+// Whether two slices hold the same octets.
+pub fn equal(a: &[u8], b: &[u8]) -> bool
+    ensures { λ r. ⌜ r ≡ same (now (a .entry)) (now (b .entry)) ⌝ }
+{
+    if a.len() != b.len() {
+        return false;
+    }
+    let mut i: usize = 0;
+    while i < a.len() {
+        if a[i] != b[i] {
+            return false;
+        }
+        i += 1;
+    }
+    true
 }
 
 // The number that the octets of `s` stand for, at every width to 64 bits.

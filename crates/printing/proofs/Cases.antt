@@ -4,8 +4,7 @@ use mathlib.Core.List.{[], _∷_}
 use Rattle.meaning.specs.Seen.{areaA, sheetA}
 use Rattle.meaning.proofs.Computing.{computing}
 use Rattle.lines.specs.Lines.{decimalIn, decimal, entryDigits, entryWith, entriesWith, refusalLine, secondTold}
-use Rattle.writing.specs.Starts.{filled, startRefusal}
-use Rattle.printing.specs.Printed.{refusalTold, shownAs, hexLine, listLine, kindFlags, areaLine, openLine, readShown, checkShown}
+use Rattle.printing.specs.Printed.{refusalTold, shownAs, listLine, readShown, checkShown}
 use Rattle.printing.specs.Printed.{writeShown, recordLine, checkPrinted, readPrinted, writePrinted}
 
 -- "For P3 below it is given 03 00 and then A, and prints the four entries, one a line, and nothing else"

@@ -1,15 +1,16 @@
 -- A job with no more room than is asked for: it is lent a part of the buffer from its start on. Assumes nothing.
-use mathlib.Core.Path.{_≡_, refl, sym, ap, subst, _∙_}
+use mathlib.Core.Path.{_≡_, refl, ap, _∙_}
 use mathlib.Core.List.{List, [], _∷_, _++_, append-assoc}
 use Prim.Native.Nat.{ℕ, zero, suc, _≤_, min}
 use native.Mathlib.Omega.{arith}
-use lib.ListN.{length, take, drop, take-append-drop, length-take}
-use lib.Seq.{length-take-le, drop-drop}
+use lib.ListN.{length, take, drop, take-append-drop}
+use lib.Seq.{length-take-le}
 use Rattle.meaning.specs.Jobs.{Context}
 use Rattle.meaning.specs.Refusals.{Refusal, none, refusal, first, tooShort, areaRefusal, areaOrder}
-use Rattle.meaning.specs.Sheet.{sheetOf, judged, areaIn, kindIn, flagsIn}
+use Rattle.meaning.specs.Sheet.{judged, areaIn, kindIn, flagsIn}
 use Rattle.meaning.specs.Listing.{listOf}
-use Rattle.meaning.specs.Answers.{Answer, given, refused, unless, over, after, Promise, readAnswer, checkAnswer, Written, writeAnswer, areaAnswer}
+use Rattle.meaning.specs.Answers.{Answer, given, refused, unless, over, after, Promise}
+use Rattle.meaning.specs.Answers.{readAnswer, checkAnswer, Written, writeAnswer, areaAnswer}
 use Rattle.meaning.proofs.Answers.{unless-given, read-exactly}
 use Rattle.meaning.proofs.Sheets.{first-none, when-is-none}
 use borrow.Author.Tests.{ltb-false}

@@ -74,8 +74,8 @@ kind-flags-length k f =
     let rest : List ℕ = decimal f ++ (space ∷ []) in
     omega (arith, length-append (decimal k) ((space ∷ []) ++ rest), length-append (space ∷ []) rest, length-append (decimal f) (space ∷ []), decimal-length k, decimal-length f)
 
-pub open-pieces : (n : ℕ) {none a b r : Text} → none ≡ textOf [] → a ≡ followed none (111 ∷ 118 ∷ 101 ∷ 114 ∷ 32 ∷ []) → b ≡ followed a (decimal n)
-    → r ≡ followed b notJudged → r ≡ textOf (openLine n)
+pub open-pieces : (n : ℕ) {none a b r : Text} → none ≡ textOf [] → a ≡ followed none (111 ∷ 118 ∷ 101 ∷ 114 ∷ 32 ∷ [])
+    → b ≡ followed a (decimal n) → r ≡ followed b notJudged → r ≡ textOf (openLine n)
 unfolding openLine
 open-pieces n p q u v =
     let front : List ℕ = 111 ∷ 118 ∷ 101 ∷ 114 ∷ 32 ∷ [] in
@@ -103,7 +103,8 @@ hex-laid at n s d held out b c e h p q =
     ∙ laid-two at n (text (unpack n s)) (10 ∷ []) d size (omega arith)
     ∙ ap (λ (k : ℕ). laidAt at (text (unpack k s) ++ (10 ∷ [])) d) e
 
-pub hex-there : (s d out : List ℕ) (n : ℕ) → n ≡ 2 * length s + 1 → n ≤ length d → out ≡ laidAt 0 (hexLine s) d → StartLaid (hexLine s) d n out
+pub hex-there : (s d out : List ℕ) (n : ℕ) → n ≡ 2 * length s + 1 → n ≤ length d → out ≡ laidAt 0 (hexLine s) d
+    → StartLaid (hexLine s) d n out
 hex-there s d out n e h o =
     let size : length (hexLine s) ≡ n = hex-length s ∙ sym e in
     start-laid (hexLine s) d out n size h (o ∙ laid-first (hexLine s) d (omega arith))
@@ -124,8 +125,8 @@ module _ (k f : ℕ) (area d : List ℕ) where
   pub area-not : length d < length (kindFlags k f) + (2 * length area + 1) → StartLaid (areaLine w) d 0 d
   area-not h = start-not-laid (areaLine w) d (omega (arith, area-length))
 
-  pub area-there : (t : Text) (held out : List ℕ) (said n : ℕ) → t ≡ textOf (kindFlags k f) → n ≡ t .len + (2 * length area + 1) → n ≤ length d
-      → StartLaid (partOf (t .octets) 0 (t .len)) d said held → out ≡ laidAt (t .len) (hexLine area) held → StartLaid (areaLine w) d n out
+  pub area-there : (t : Text) (held out : List ℕ) (said n : ℕ) → t ≡ textOf (kindFlags k f) → n ≡ t .len + (2 * length area + 1)
+      → n ≤ length d → StartLaid (partOf (t .octets) 0 (t .len)) d said held → out ≡ laidAt (t .len) (hexLine area) held → StartLaid (areaLine w) d n out
   unfolding areaLine textOf
   area-there t held out said n e n-is h p o =
       let front : List ℕ = kindFlags k f in
@@ -232,7 +233,8 @@ module _ (list d : List ℕ) (count : ℕ) where
       none : take count list ≡ []
       none = sym (take-least count list) ∙ ap (λ (k : ℕ). take k list) e
 
-  module _ (said : ℕ) (held : List ℕ) (some : min count (length list) ≡ 0 → ⊥) (p : StartLaid (entriesWith space (take count list)) d said held) where
+  module _ (said : ℕ) (held : List ℕ) (some : min count (length list) ≡ 0 → ⊥)
+      (p : StartLaid (entriesWith space (take count list)) d said held) where
     there-are : 0 < length (take count list)
     there-are = go (min count (length list)) refl
       where

@@ -1,7 +1,6 @@
 -- What is printed of an answer, by its case. Assumes nothing.
 use mathlib.Core.Path.{_≡_, refl, sym, ap, subst, _∙_}
-use mathlib.Core.Bool.{Bool, true, false, cond}
-use mathlib.Core.List.{List, [], _∷_, _++_}
+use mathlib.Core.List.{List, []}
 use Prim.Native.Nat.{ℕ, _-_, _<_, _≤_, min}
 use native.Mathlib.Omega.{arith}
 use borrow.Author.Tests.{ne-eqb, lt-ltb, le-ltb}
@@ -9,7 +8,7 @@ use lib.ListN.{length, take, drop, getD, length-drop}
 use lib.Seq.{take-at, take-all}
 use Rattle.meaning.specs.Jobs.{comes}
 use Rattle.meaning.specs.Refusals as book
-use Rattle.meaning.specs.Answers.{Answer, given, refused, over, after, Promise, Written, readAnswer, checkAnswer, writeAnswer, areaAnswer}
+use Rattle.meaning.specs.Answers.{Answer, given, refused, over, after, Written, writeAnswer, areaAnswer}
 use Rattle.octets.specs.Parts.{partOf}
 use Rattle.lines.specs.Lines.{StartLaid, textOf, refusalLine}
 use Rattle.lines.specs.declared.Text.{Text}
@@ -26,9 +25,11 @@ use Rattle.writing.specs.declared.Start.{Start}
 use Rattle.writing.specs.declared.Start.the-variants as start
 use Rattle.writing.specs.Starts.{startRefusal}
 use Rattle.writing.specs.Answers.{startSaid}
-use Rattle.printing.specs.Printed.{isShort, readOf, checkOf, shortLine, refusalTold, shownAs, readShown, checkShown, startShown, writeShown}
+use Rattle.printing.specs.Printed.{readOf, checkOf, shortLine, refusalTold, shownAs, readShown, checkShown}
+use Rattle.printing.specs.Printed.{startShown, writeShown}
 use Rattle.printing.specs.Printed.{readPrinted, hexLine, listLine, areaLine, openLine, recordLine}
-use Rattle.printing.specs.Lent.{ReadWithin, CheckedWithin, WroteWithin, sheetAfter, listAfter, areaAfter, roomOf, octetsAfter, entriesAfter, Answered}
+use Rattle.printing.specs.Lent.{ReadWithin, CheckedWithin, WroteWithin, sheetAfter, listAfter, areaAfter}
+use Rattle.printing.specs.Lent.{roomOf, octetsAfter, entriesAfter, Answered}
 use Rattle.lines.proofs.Listing.{start-laid}
 use Rattle.octets.proofs.Overs.{over-none}
 use Rattle.printing.proofs.Lending.{read-fits}
@@ -73,7 +74,8 @@ module _ (show : List ℕ → List ℕ) (l : List ℕ) (all room : ℕ) (d : Lis
         go (refused i j) x = absurd (let g = sym e ∙ promised .says ∙ ap readingOf x in let z : _≡_ {A = ℕ} 0 1 = cc in omega arith)
 
     pub read-refused : {r : Refusal} → said ≡ reading.Refused r → {o out : List ℕ} {n : ℕ}
-        → StartLaid (refusalTold all (r .number) (r .second)) o n out → StartLaid (readShown show l all room) o n out × (held ≡ sheetAfter l room d)
+        → StartLaid (refusalTold all (r .number) (r .second)) o n out
+        → StartLaid (readShown show l all room) o n out × (held ≡ sheetAfter l room d)
     unfolding readShown sheetAfter shownAs
     read-refused {r} e {o} {out} {n} s = rw (le-ltb (length l) 2 long) (go (readOf l room) refl, promised .holds)
       where
@@ -110,7 +112,8 @@ module _ (show : List ℕ → List ℕ) (l : List ℕ) (all room : ℕ) (d : Lis
         go (refused i j) x = absurd (let g = sym e ∙ promised-list .says ∙ ap checkingOf x in let z : _≡_ {A = ℕ} 0 1 = cc in omega arith)
 
     pub check-refused : {r : Refusal} → said ≡ checking.Refused r → {o out : List ℕ} {n : ℕ}
-        → StartLaid (refusalTold all (r .number) (r .second)) o n out → StartLaid (checkShown show l all room) o n out × (held ≡ listAfter l room d)
+        → StartLaid (refusalTold all (r .number) (r .second)) o n out
+        → StartLaid (checkShown show l all room) o n out × (held ≡ listAfter l room d)
     unfolding checkShown listAfter shownAs
     check-refused {r} e {o} {out} {n} s = rw (le-ltb (length l) 2 long) (go (checkOf l room) refl, promised-list .holds)
       where
@@ -164,14 +167,16 @@ module _ (show : Written → List ℕ) (pending l : List ℕ) (all room : ℕ) (
 -- ---- By the kept octets of a longer sheet
 
 module _ (pending l : List ℕ) {said : Start} (says : said ≡ startSaid (startRefusal l)) where
-  pub start-open : said ≡ start.Open → {o out : List ℕ} {n : ℕ} → StartLaid pending o n out → StartLaid (startShown pending (startRefusal l)) o n out
+  pub start-open : said ≡ start.Open → {o out : List ℕ} {n : ℕ} → StartLaid pending o n out
+      → StartLaid (startShown pending (startRefusal l)) o n out
   start-open e {o} {out} {n} s = go (startRefusal l) refl
     where
       go : (x : book.Refusal) → startRefusal l ≡ x → StartLaid (startShown pending x) o n out
       go book.none x = s
       go (book.refusal i j) x = absurd (let g = sym e ∙ says ∙ ap startSaid x in let z : _≡_ {A = ℕ} 0 1 = cc in omega arith)
 
-  pub start-refused : {r : area.Refusal} → said ≡ start.Refused r → {o out : List ℕ} {n : ℕ} (t : Text) → t ≡ textOf (refusalLine (r .number) (r .second))
+  pub start-refused : {r : area.Refusal} → said ≡ start.Refused r → {o out : List ℕ} {n : ℕ} (t : Text)
+      → t ≡ textOf (refusalLine (r .number) (r .second))
       → StartLaid (partOf (t .octets) 0 (t .len)) o n out → StartLaid (startShown pending (startRefusal l)) o n out
   start-refused {r} e {o} {out} {n} t q s = go (startRefusal l) refl
     where
@@ -208,7 +213,8 @@ module _ (l : List ℕ) (all : ℕ) (d : List ℕ) (long : 2 ≤ length l) {kind
       go (given t) x = absurd (let g = sym e ∙ kept .says ∙ ap readingOf x in let z : _≡_ {A = ℕ} 0 1 = cc in omega arith)
       go (refused i j) x = kept .holds ∙ rw x
 
-  pub refusal-printed : {r : Refusal} → said ≡ reading.Refused r → {out : List ℕ} {n : ℕ} → StartLaid (refusalTold all (r .number) (r .second)) held n out
+  pub refusal-printed : {r : Refusal} → said ≡ reading.Refused r → {out : List ℕ} {n : ℕ}
+      → StartLaid (refusalTold all (r .number) (r .second)) held n out
       → StartLaid (readPrinted l all (length d)) d n out
   refusal-printed {r} e {out} {n} s =
       subst (λ (o : List ℕ). StartLaid (readPrinted l all (length d)) o n out) (unchanged e)

@@ -1,20 +1,21 @@
 -- What is printed, whole: the buffers of the programs have room enough, the octets that they keep are enough, and no line is longer than
 -- its buffer. Every `&[u8]` that is handed over is octets. Assumes nothing.
 use mathlib.Core.Path.{_≡_, refl, sym, ap, _∙_}
-use mathlib.Core.Bool.{Bool, true, false, cond, not}
+use mathlib.Core.Bool.{Bool, true, false, cond}
 use mathlib.Core.List.{List, [], _∷_, _++_}
-use Prim.Native.Nat.{ℕ, _+_, _*_, _-_, _<_, _≤_, min}
+use Prim.Native.Nat.{ℕ, _+_, _*_, _<_, _≤_, min}
 use native.Mathlib.Omega.{arith}
-use borrow.Author.Tests.{lt-ltb, le-ltb, ltb-true, ltb-false, le-leb, leb-true, leb-false, eqb-true}
+use borrow.Author.Tests.{lt-ltb, le-ltb, ltb-true, ltb-false, leb-true, leb-false, eqb-true}
 use lib.Dec.{eqb, leb, ltb}
 use lib.ListN.{length, take, drop, getD, length-append, length-drop, take-append-drop, List·getD-append}
 use lib.Seq.{take-all, length-take-le}
 use Rattle.meaning.specs.Octets.{Octets}
 use Rattle.meaning.specs.Versions.{current}
-use Rattle.meaning.specs.Jobs.{Context, comes}
+use Rattle.meaning.specs.Jobs.{comes}
 use Rattle.meaning.specs.Framing.{walk}
-use Rattle.meaning.specs.Refusals.{Refusal, none, refusal, first, fault, tooShort, tooLong, kindRefusal, framingRefusal, areaRefusal, areaOrder}
-use Rattle.meaning.specs.Sheet.{sheetOf, sheetAs, Readable, judged, areaIn, kindIn, flagsIn}
+use Rattle.meaning.specs.Refusals.{Refusal, none, refusal, first, fault, tooShort, tooLong}
+use Rattle.meaning.specs.Refusals.{kindRefusal, framingRefusal, areaRefusal, areaOrder}
+use Rattle.meaning.specs.Sheet.{sheetOf, judged, areaIn, kindIn, flagsIn}
 use Rattle.meaning.specs.Listing.{listOf}
 use Rattle.meaning.specs.Answers.{Answer, given, refused, unless, readAnswer, checkAnswer, Written, writeAnswer}
 use Rattle.meaning.proofs.Octets.{octets-drop}
@@ -24,7 +25,8 @@ use Rattle.meaning.proofs.Answers.{unless-given, read-exactly}
 use Rattle.checking.proofs.Bounds.{list-bound}
 use Rattle.lines.specs.Lines.{decimal, refusedWord, refusalLine, secondTold}
 use Rattle.lines.proofs.Spelling.{decimal-length}
-use Rattle.printing.specs.Printed.{readOf, checkOf, refusalTold, shownAs, readShown, checkShown, writeShown, readPrinted, checkPrinted, writePrinted}
+use Rattle.printing.specs.Printed.{readOf, checkOf, refusalTold, shownAs, readShown, checkShown, writeShown}
+use Rattle.printing.specs.Printed.{readPrinted, checkPrinted, writePrinted}
 use Rattle.printing.specs.Printed.{hexLine, listLine, areaLine, openLine, isJob, jobRead, jobCheck, jobWrite, recordLine}
 use Rattle.printing.specs.Printed.{shortLine, kindFlags, notJudged, startShown}
 use Rattle.printing.specs.Lent.{roomOf, Answered}
@@ -51,9 +53,6 @@ module _ (l : List ℕ) (o : Octets l) (room most : ℕ) where
   sheet-room : 8161 ≤ most → readOf l (min room most) ≡ readOf l room
   unfolding readAnswer areaOrder
   sheet-room h =
-      let kind : ℕ = getD l 0 0 in
-      let flags : ℕ = getD l 1 0 in
-      let area : List ℕ = drop 2 l in
       ap (λ (r : Refusal). unless r (sheetOf (getD l 0 0) (getD l 1 0) (drop 2 l)))
       (order-same (areaRefusal (getD l 0 0) (getD l 1 0) (drop 2 l)) 9 (length (sheetOf (getD l 0 0) (getD l 1 0) (drop 2 l))) (min room most) room
       (λ e. cut-same _ room most (omega (arith, sheet-bound current (getD l 0 0) (getD l 1 0) (drop 2 l) (record { octets = octets-drop 2 l o; accepted = e }), clear (getD l 0 0) (getD l 1 0) (drop 2 l) e .short))))
@@ -61,7 +60,6 @@ module _ (l : List ℕ) (o : Octets l) (room most : ℕ) where
   list-room : 6126 ≤ most → checkOf l (min room most) ≡ checkOf l room
   unfolding checkAnswer areaOrder
   list-room h =
-      let c : Context = comes (getD l 0 0) (getD l 1 0) in
       ap (λ (r : Refusal). unless r (listOf (comes (getD l 0 0) (getD l 1 0)) (drop 2 l)))
       (order-same (areaRefusal (getD l 0 0) (getD l 1 0) (drop 2 l)) 10 (length (listOf (comes (getD l 0 0) (getD l 1 0)) (drop 2 l))) (min room most) room
       (λ e. cut-same _ room most (omega (arith, list-bound (comes (getD l 0 0) (getD l 1 0)) (drop 2 l) (record { octets = octets-drop 2 l o; accepted = e })))))
@@ -122,7 +120,8 @@ module _ (show : List ℕ → List ℕ) (all room : ℕ) (kind flags : ℕ) (are
   long-order show n needed a = go (kindRefusal kind flags)
     where
       go : (r : Refusal)
-          → shownAs show all (unless (first (first r (first (tooLong 3 (length area)) (fault (walk area)))) (tooShort n needed room)) a) ≡ tooLongTold all r
+          → shownAs show all (unless (first (first r (first (tooLong 3 (length area)) (fault (walk area)))) (tooShort n needed room)) a)
+          ≡ tooLongTold all r
       go none = rw (lt-ltb 4076 (length area) h)
       go (refusal n s) = refl
 
@@ -229,9 +228,6 @@ module _ (l : List ℕ) (o : Octets l) (all room : ℕ) where
   unfolding checkAnswer areaOrder
   check-between = shown-between listLine all 55134 (checkOf l room) (omega arith) each
     where
-      c : Context
-      c = comes (getD l 0 0) (getD l 1 0)
-
       each : (s : List ℕ) → checkOf l room ≡ given s → Between (listLine s) 55134
       each s e =
           let g = unless-given _ (listOf (comes (getD l 0 0) (getD l 1 0)) (drop 2 l)) s e in

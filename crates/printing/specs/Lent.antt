@@ -6,7 +6,7 @@ use mathlib.Core.List.{List}
 use lib.Dec.{eqb, ltb}
 use lib.ListN.{length}
 use Rattle.meaning.specs.Jobs.{Context}
-use Rattle.meaning.specs.Answers.{Answer, after, Promise, readAnswer, checkAnswer, writeAnswer, areaAnswer}
+use Rattle.meaning.specs.Answers.{after, Promise, readAnswer, checkAnswer, writeAnswer, areaAnswer}
 use Rattle.desk.specs.declared.Reading.{Reading}
 use Rattle.desk.specs.declared.Checking.{Checking}
 use Rattle.desk.specs.declared.Writing.{Writing}
@@ -17,7 +17,8 @@ use Rattle.lines.specs.Lines.{StartLaid}
 -- ---- A job with no more room than is asked for, of a buffer that is lent
 
 abbrev pub ReadWithin : (kind flags room : ℕ) (area buffer : List ℕ) (said : Reading) (held : List ℕ) → Type 0
-ReadWithin kind flags room area d said held = Promise (readingOf (readAnswer kind flags area room)) (readAnswer kind flags area room) d said held
+ReadWithin kind flags room area d said held =
+    Promise (readingOf (readAnswer kind flags area room)) (readAnswer kind flags area room) d said held
 
 abbrev pub CheckedWithin : Context → (room : ℕ) (area buffer : List ℕ) (said : Checking) (held : List ℕ) → Type 0
 CheckedWithin c room area d said held = Promise (checkingOf (checkAnswer c area room)) (checkAnswer c area room) d said held

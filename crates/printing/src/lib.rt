@@ -9,16 +9,13 @@ use lines::Text;
 use writing::Start;
 ghost use mathlib.Core.Path.{_≡_};
 ghost use Prim.Native.Nat.{_+_, _*_, _≤_, min};
-ghost use mathlib.Core.List.{_++_};
-ghost use mathlib.Core.Bool.{cond};
-ghost use lib.Dec.{eqb};
 ghost use lib.ListN.{length, take};
 ghost use Rattle.meaning.specs.Jobs.{comes};
-ghost use Rattle.meaning.specs.Answers.{Written};
 ghost use Rattle.octets.specs.Parts.{partOf, laidAt};
 ghost use Rattle.lines.specs.Lines.{StartLaid, textOf};
-ghost use Rattle.printing.specs.Printed.{shortLine, refusalTold, hexLine, listLine, kindFlags, areaLine, openLine, startShown};
-ghost use Rattle.printing.specs.Printed.{readShown, checkShown, writeShown, readPrinted, checkPrinted, writePrinted, isJob, areaOctets};
+ghost use Rattle.printing.specs.Printed.{refusalTold, hexLine, listLine, kindFlags, areaLine, openLine, startShown};
+ghost use Rattle.printing.specs.Printed.{readShown, checkShown, writeShown, readPrinted, checkPrinted, writePrinted};
+ghost use Rattle.printing.specs.Printed.{isJob, areaOctets};
 ghost use Rattle.writing.specs.Starts.{startRefusal};
 ghost use Rattle.printing.specs.Lent.{ReadWithin, CheckedWithin, WroteWithin, sheetAfter, listAfter, areaAfter, Answered};
 
@@ -197,8 +194,8 @@ fn check_line(given: &[u8], all: usize, room: usize, list: &mut [u32], out: &mut
 
 // What is printed of a longer sheet: the line of the refusal that its kept octets decide, or what is said where they decide none.
 fn put_start(kept: &[u8], pending: Text, out: &mut [u8]) -> usize
-    ensures { λ r. ⌜ StartLaid (startShown (partOf (pending .octets) 0 (pending .len)) (startRefusal (now (kept .entry)))) (now (out .entry)) r
-        (now (out .exit)) ⌝ }
+    ensures { λ r. ⌜ StartLaid (startShown (partOf (pending .octets) 0 (pending .len)) (startRefusal (now (kept .entry))))
+        (now (out .entry)) r (now (out .exit)) ⌝ }
 {
     match writing::judge_start(kept) {
         Start::Open => put_text(pending, out),

@@ -1,21 +1,21 @@
 -- Sheets that begin with the same octets: what these decide is so for each of them. Assumes nothing.
 use mathlib.Core.Path.{_≡_, refl, sym, ap, subst, _∙_}
 use mathlib.Core.Logic.{_⊎_, inl, inr}
-use mathlib.Core.Bool.{Bool, true, false, cond, not, _&&_}
+use mathlib.Core.Bool.{Bool, true, false, not, _&&_}
 use mathlib.Core.List.{List, [], _∷_, _++_, append-assoc}
-use Prim.Native.Nat.{ℕ, zero, suc, _+_, _-_, _<_, _≤_}
+use Prim.Native.Nat.{ℕ, zero, suc, _+_, _<_, _≤_}
 use native.Mathlib.Omega.{arith}
-use borrow.Author.Tests.{le-ltb, lt-ltb, ltb-true, ltb-false, le-leb, lt-leb, leb-true, leb-false, eq-eqb, ne-eqb, eqb-true}
-use lib.Dec.{eqb, leb, ltb, leb→le}
+use borrow.Author.Tests.{le-ltb, ltb-false, le-leb, leb-true, leb-false, eqb-true}
+use lib.Dec.{leb, ltb}
 use lib.ListN.{length, take, drop, getD, length-append, length-drop, length-take, take-append-drop, List·getD-append}
 use lib.Seq.{take-append-le, drop-append-le, take-all, length-take-le}
-use Rattle.meaning.specs.Octets.{same, octetsOf, numberOf}
-use Rattle.meaning.specs.Versions.{Version, one, termsOf}
+use Rattle.meaning.specs.Octets.{same, numberOf}
+use Rattle.meaning.specs.Versions.{Version, one}
 use Rattle.meaning.specs.Jobs.{isKind, areFlags}
-use Rattle.meaning.specs.Framing.{carries, Walk, end, broken, next}
+use Rattle.meaning.specs.Framing.{carries, Walk, end}
 use Rattle.meaning.specs.Refusals.{Refusal, none, refusal, when, first, fault, tooLong, sheetRefusal}
-use Rattle.meaning.specs.Sheet.{storedLength, Entered, holds, refused, item, judgedItem, wholeItem, entered, onItem, items, itemsIn, kindIn, flagsIn, areaIn, mark}
-use Rattle.meaning.specs.Sheet.{marked, judged}
+use Rattle.meaning.specs.Sheet.{storedLength, Entered, holds, refused, item, judgedItem, wholeItem, entered, onItem, items}
+use Rattle.meaning.specs.Sheet.{itemsIn, kindIn, flagsIn, areaIn, marked, judged}
 use Rattle.writing.specs.Starts.{filled, startBy, startRefusal}
 use Rattle.writing.proofs.Whole.{marked-nine}
 
@@ -153,7 +153,8 @@ module _ (ver : Version) where
 
       go :
           (x : Entered) → entered ver l ≡ x → fault (onItem p on x) ≡ r
-          → ((size : ℕ) → fault (on size) ≡ r → fault (items ver c (p + size) (drop size l ++ rest)) ≡ furtherOf (p + size + length (drop size l)) r)
+          → ((size : ℕ) → fault (on size) ≡ r
+          → fault (items ver c (p + size) (drop size l ++ rest)) ≡ furtherOf (p + size + length (drop size l)) r)
           → fault (onItem p onward (entered ver (l ++ rest))) ≡ furtherOf (p + length l) r
       go (refused i) q f more =
           let w : IsWhole l = not-cut l (λ z. cut-not i r k f (let g : refused i ≡ refused 22 = sym q ∙ z in cc)) in
@@ -203,7 +204,8 @@ module _ (l rest : List ℕ) (h : 9 ≤ length l) where
   allowed-more : allowedIn (l ++ rest) ≡ allowedIn l
   allowed-more = rw (List·getD-append l rest 0 5 (omega arith), List·getD-append l rest 0 6 (omega arith))
 
-  items-more : 0 < length rest → (r : Refusal) → fault (itemsIn l) ≡ r → NotCut one r → fault (itemsIn (l ++ rest)) ≡ furtherOf one (length l) r
+  items-more : 0 < length rest → (r : Refusal) → fault (itemsIn l) ≡ r → NotCut one r
+      → fault (itemsIn (l ++ rest)) ≡ furtherOf one (length l) r
   unfolding itemsIn
   items-more some r f k =
       let count : take 2 (drop 7 (l ++ rest)) ≡ take 2 (drop 7 l) =
@@ -213,7 +215,8 @@ module _ (l rest : List ℕ) (h : 9 ≤ length l) where
       (walk-more one (numberOf (take 2 (drop 7 l))) 9 (drop 9 l) rest some r f k ∙ ap (λ (b : ℕ). furtherOf one b r) size)
 
   -- items that fill the kept octets leave the rest
-  filled-more : 0 < length rest → marked l ≡ true → allowedIn l ≡ true → fault (itemsIn l) ≡ none → judged (l ++ rest) ≡ refusal 22 (length l)
+  filled-more : 0 < length rest → marked l ≡ true → allowedIn l ≡ true → fault (itemsIn l) ≡ none
+      → judged (l ++ rest) ≡ refusal 22 (length l)
   filled-more some m a f = by-items (l ++ rest) (marked-more ∙ m) (allowed-more ∙ a) (items-more some none f tt)
 
 -- what is filled has no refusal but 24
@@ -247,16 +250,12 @@ module _ (l rest : List ℕ) (some : 0 < length rest) where
   unfolding filled
   remains q e f = go (leb q (length l)) refl
     where
-      cut : List ℕ
-      cut = take q l
-
       go : (b : Bool) → leb q (length l) ≡ b → judged (l ++ rest) ≡ refusal 22 q
       go false h =
           let all : take q l ≡ l = take-all q l (omega (arith, leb-false q (length l) h)) in
           absurd (let g : filled (refusal 22 q) ≡ true = rw (all, e) at f in let z : _≡_ {A = ℕ} 0 1 = cc in omega arith)
       go true h =
           let size : length (take q l) ≡ q = length-take-le q l (leb-true q (length l) h) in
-          let behind : List ℕ = drop q l ++ rest in
           let more : 0 < length (drop q l ++ rest) = omega (arith, length-append (drop q l) rest) in
           let parts : l ++ rest ≡ take q l ++ (drop q l ++ rest) =
           ap (λ (t : List ℕ). t ++ rest) (sym (take-append-drop q l)) ∙ append-assoc (take q l) (drop q l) rest in
@@ -273,8 +272,8 @@ module _ (l rest : List ℕ) (some : 0 < length rest) where
       long true size h = h
       long false size h = h
 
-      by : {k j : ℕ} → marked l ≡ true → allowedIn l ≡ true → fault (itemsIn l) ≡ refusal k j → (k ≡ 22) ⊎ (k ≡ 23) → startBy l (refusal k j) ≡ refusal n s
-          → judged (l ++ rest) ≡ refusal n s
+      by : {k j : ℕ} → marked l ≡ true → allowedIn l ≡ true → fault (itemsIn l) ≡ refusal k j → (k ≡ 22) ⊎ (k ≡ 23)
+          → startBy l (refusal k j) ≡ refusal n s → judged (l ++ rest) ≡ refusal n s
       by {k} {j} p q f (inl x) h =
           let w = when-is (filled (judged (take j l))) 22 j (rw x at h) in
           remains j (by-items l p q (rw x at f)) (w .0) ∙ w .1

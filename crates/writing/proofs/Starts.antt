@@ -5,7 +5,7 @@ use mathlib.Core.List.{List}
 use Prim.Native.Nat.{ℕ, _<_, _≤_}
 use native.Mathlib.Omega.{arith}
 use borrow.Author.Tests.{eq-eqb, ne-eqb, le-leb, lt-leb}
-use lib.ListN.{length, take}
+use lib.ListN.{length}
 use Rattle.meaning.specs.Refusals.{Refusal, none, refusal}
 use Rattle.meaning.specs.Sheet.{judged}
 use Rattle.octets.specs.Parts.{partOf}
@@ -45,8 +45,8 @@ module _ (l : List ℕ) (n s : ℕ) where
   pub start-24 : {r : Start} → r ≡ startSaid (refusal 22 (length l)) → n ≡ 24 → r ≡ startSaid (startBy l (refusal n s))
   start-24 h e = h ∙ rw (eq-eqb n 24 e)
 
-  pub start-filled : {r : Start} {b : Bool} (k : List ℕ) → r ≡ startSaid (refusal 22 s) → k ≡ partOf l 0 s → b ≡ filled (judged k) → b ≡ true
-      → n ≡ 22 → r ≡ startSaid (startBy l (refusal n s))
+  pub start-filled : {r : Start} {b : Bool} (k : List ℕ) → r ≡ startSaid (refusal 22 s) → k ≡ partOf l 0 s → b ≡ filled (judged k)
+      → b ≡ true → n ≡ 22 → r ≡ startSaid (startBy l (refusal n s))
   unfolding partOf
   start-filled k h p f t e = h ∙ sym (rw (ne-eqb n 24 (λ z. omega arith), eq-eqb n 22 e, sym (ap (λ (m : List ℕ). filled (judged m)) p), sym f, t))
 

@@ -1,7 +1,6 @@
 -- By the case of the answer. Assumes nothing.
 use borrow.Author.Needs.{needs}
 use native.Mathlib.Omega.{arith}
-use mathlib.Core.Path.{refl}
 use Rattle.printing.proofs.Shown.{rest-given, read-short, read-given, read-refused}
 use Rattle.printing.proofs.read_line.Statement.{statement}
 use Rattle.printing.proofs.read_line.Tie as tie

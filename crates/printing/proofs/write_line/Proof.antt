@@ -1,7 +1,6 @@
 -- By the kept octets, or by the case of the answer. Assumes nothing.
 use borrow.Author.Needs.{needs}
 use native.Mathlib.Omega.{arith}
-use mathlib.Core.Path.{refl}
 use Rattle.printing.proofs.Shown.{write-cut, write-given, write-refused}
 use Rattle.printing.proofs.Pieces.{text-shown}
 use Rattle.printing.proofs.write_line.Statement.{statement}

@@ -2,9 +2,9 @@
 use Prim.Native.Nat.{_-_}
 use native.Mathlib.Omega.{arith}
 use lib.ListN.{length}
-use Rattle.filing.proofs.Alike.{Agree, lengths-differ, agree-none, agree-more, agree-not, agree-all}
-use Rattle.filing.proofs.equal.Statement.{statement}
-use Rattle.filing.proofs.equal.Tie as tie
+use Rattle.octets.proofs.Alike.{Agree, lengths-differ, agree-none, agree-more, agree-not, agree-all}
+use Rattle.octets.proofs.equal.Statement.{statement}
+use Rattle.octets.proofs.equal.Tie as tie
 
 abbrev Inv-loop : tie.InvT-loop
 Inv-loop a b i₀ i = Agree a b i
