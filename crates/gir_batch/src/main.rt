@@ -32,9 +32,6 @@ const INPUT: usize = 9 + 1048576;
 // The octets that one read asks for.
 const PART: usize = 131072;
 
-// So many octets of lines may wait to be written when another is put behind them.
-const WAITING: usize = 65536;
-
 // Which octets of the input buffer are read and not used yet: from `at` to `have`.
 struct Feed {
     at: usize,
@@ -328,7 +325,8 @@ fn turn(
             if kept < n {
                 return answer_long(buf, feed, n, kept, sheet, list, out, used, number);
             }
-            if used <= WAITING {
+            // the longest line has room behind those that wait
+            if printing::LONGEST_LINE <= out.len() - octets::least(used, out.len()) {
                 return answer(buf, feed, n, kept, sheet, list, out, used, number);
             }
             if !write_out(octets::part(out, 0, used)) {
@@ -348,7 +346,7 @@ fn input_buffer() -> [u8; 1048585]
     [0; 1048585]
 }
 
-// Room for a sheet or an area, for a list, and for lines: zeros.
+// Room for a sheet or an area, for a list, and for lines, 65,536 octets of those that wait and the longest behind them: zeros.
 fn sheet_buffer() -> [u8; 8161]
     ensures { λ r. ⌜ 8161 ≡ length r ⌝ }
 {
