@@ -28,7 +28,7 @@ one-sub : (n m : ℕ) → 2 ≤ m → m ≤ 248 → m ≡ n - 6 → oneSub n m �
 unfolding oneSub
 one-sub n m p q r = simp (le-leb 2 m p, le-leb m 248 q, eq-eqb m (n - 6) r)
 
--- 7: "type 26 with length below 7"
+-- 7: a type 26 that has no octet behind the vendor id
 pub vendor-short : (n : ℕ) (r : List ℕ) → n < 7 → vendorFound n r ≡ refused 7
 unfolding vendorFound
 vendor-short n r h = simp (lt-ltb n 7 h)
@@ -46,7 +46,7 @@ module _ (l : List ℕ) (place n : ℕ) where
     vendor-other v = simp (le-ltb n 7 long, ne-eqb (numberOf (partOf l (place + 2) 4)) vendor3gpp v)
 
     module _ (id : numberOf (partOf l (place + 2) 4) ≡ vendor3gpp) where
-      -- 8: "vendor 10415, sub-attribute layout broken"
+      -- 8: "sub-attribute layout broken"
       pub vendor-broken :
           (2 ≤ getD l (place + 7) 0 → getD l (place + 7) 0 ≤ 248 → getD l (place + 7) 0 ≡ n - 6 → ⊥)
           → vendorFound n (drop (place + 2) l) ≡ refused 8
@@ -80,7 +80,7 @@ module _ (l : List ℕ) (place : ℕ) where
   unfolding found foundAt
   found-nothing h = ap found (drop-of-length-le l h)
 
-  -- 4: "one octet left where an attribute should start"
+  -- 4: "one octet left"
   pub found-one-octet : place + 1 ≡ length l → foundAt l place ≡ refused 4
   unfolding found foundAt
   found-one-octet h =
@@ -96,7 +96,7 @@ module _ (l : List ℕ) (place : ℕ) where
     unfolding found foundAt
     found-low n = rw (drop-two l place two) (simp (lt-ltb _ _ n))
 
-    -- 6: "length passes the area's end"
+    -- 6: the attribute goes on behind the area
     pub found-past : 2 ≤ getD l (place + 1) 0 → length l < place + getD l (place + 1) 0 → foundAt l place ≡ refused 6
     unfolding found foundAt
     found-past n m =

@@ -196,14 +196,14 @@ pub fn carried_at(area: &[u8], place: usize) -> Carried
     }
 }
 
-// "Kinds: 1 Access-Request, 2 Accounting START, 3 STOP, 4 ON, 5 OFF, 6 Interim-Update".
+// Whether a number is one of the six kinds of message.
 pub fn is_kind(kind: u32) -> bool
     ensures { λ r. ⌜ r ≡ isKind kind ⌝ }
 {
     (1 <= kind) & (kind <= 6)
 }
 
-// "Allowed flag numbers are 0, 1, 2, 4, 5 and 6, for every kind".
+// Whether a number can be flags: PAP and CHAP are not used together.
 pub fn are_flags(flags: u32) -> bool
     ensures { λ r. ⌜ r ≡ areFlags flags ⌝ }
 {

@@ -1,4 +1,4 @@
--- Document 01, "Breaches": the entries as the code lays them, by an attribute and by the end, from what the code has at hand: the row
+-- The book, "Breaches": the entries as the code lays them, by an attribute and by the end, from what the code has at hand: the row
 -- of the kind, the numbers noted, and whether an earlier attribute carries the number. Assumes nothing.
 use Prim.Native.Nat.{ℕ, _+_, _*_, _≤_, _<_}
 use mathlib.Core.Path.{_≡_}

@@ -1,4 +1,4 @@
--- Document 01, "a table of 1,536 entries, one for each kind and number": what the row of a kind in it holds. Assumes nothing.
+-- The presence table, "a table of 1,536 entries": what the row of a kind in it holds. Assumes nothing.
 use Prim.Native.Nat.{ℕ, _≤_, _<_}
 use mathlib.Core.Path.{_≡_}
 use mathlib.Core.List.{List}

@@ -81,7 +81,7 @@ fn is_listed_3gpp(number: u16) -> bool
     ((IMSI <= number) & (number <= SELECTION_MODE)) | (number == SGSN_MCC_MNC)
 }
 
-// Rule 3: "For plain 1 to 4, 6 to 9, 30 to 32, 40 to 49, 60, 61 and for 3GPP 1 to 12, 18".
+// Rule 3: whether a number may stand once only.
 fn once_only(number: u16) -> bool
     ensures { λ r. ⌜ r ≡ onceOnly number ⌝ }
 {
@@ -121,7 +121,7 @@ fn barred(codes: &[u8], kind: u32, flags: u32, number: u16) -> bool
     (kind <= 5) & is_listed_3gpp(number)
 }
 
-// "40 is 1, 2, 7, 8, 3 for kinds 2, 3, 4, 5, 6".
+// The Acct-Status-Type of a kind; 0 for a kind that has none.
 fn status_of(kind: u32) -> u32
     requires { ⌜ (2 ≤ kind) × (kind ≤ 6) ⌝ }
     ensures { λ r. ⌜ r ≡ statusOf kind ⌝ }
@@ -176,7 +176,7 @@ fn offends(kind: u32, number: u16, value: &[u8], met: bool) -> bool
     !allowed(kind, number, value)
 }
 
-// "place x 1,048,576 + rule x 65,536 + type x 256 + sub-attribute number (0 if none)".
+// The entry of a place, a rule and a number: from the high digits down, and type and sub-attribute number for the number.
 fn entry_of(place: usize, rule: u32, number: u16) -> u32
     requires { ⌜ (place ≤ 4076) × (rule < 8) × (number < 512) ⌝ }
     ensures { λ r. ⌜ r ≡ entry place rule number ⌝ }
@@ -234,8 +234,8 @@ fn at_attribute(
     put(list, third, bars, place, 4, number)
 }
 
-// Lays what the attributes of an area break, from the left, and notes the numbers seen. Rule 3, "an earlier attribute carries the same
-// number": a walk from the area's start, left at the first equal number; a number that was not seen is not searched for.
+// Lays what the attributes of an area break, from the left, and notes the numbers seen. Rule 3, "an earlier attribute": a walk from
+// the area's start, left at the first equal number; a number that was not seen is not searched for.
 fn along(
     area: &[u8],
     codes: &[u8],
@@ -427,7 +427,7 @@ fn lay(area: &[u8], kind: u32, flags: u32, list: &mut [u32]) -> Checking
     }
 }
 
-// "Check: the same inputs give a list of breaches", at the buffer's start; a refusal leaves the buffer as it was.
+// Check: the list of an area's breaches, at the buffer's start; a refusal leaves the buffer as it was.
 pub fn check(area: &[u8], kind: u32, flags: u32, list: &mut [u32]) -> Checking
     ensures { λ r. ⌜ Checked (comes kind flags) (now (area .entry)) (now (list .entry)) r (now (list .exit)) ⌝ }
 {

@@ -54,8 +54,8 @@ one-checking-out c area buffer = one-answer _ _ buffer
 pub one-writing-out : (sheet buffer : List ℕ) → OneAnswer exported.Answer (WroteOut sheet buffer)
 one-writing-out sheet buffer = one-answer _ _ buffer
 
--- ---- Demand 1: "refuses the bad ones by the numbers in document 01, each exactly when its line is the first, in the order given
--- there, that applies, and a refusal changes no lent buffer"
+-- ---- Demand 1: a job refuses by a number of the book exactly where that refusal comes first in the job's order, and no lent buffer is
+-- changed then
 
 -- Reading is refused by the first of 1 to 9 that applies.
 pub read-refuses : (r : ReadCall) → Refuses reading.Refused (readOrder r) (r .buffer) (r .said) (r .held)
@@ -74,14 +74,14 @@ write-refuses w =
     let area : Written = record { kind = kindIn (w .sheet); flags = flagsIn (w .sheet); area = areaIn (w .sheet) } in
     refuses write-shown (writeOrder w) area (w .promised)
 
--- ---- Demand 2: "an area is read exactly when its framing follows RFC 2865 and the 3GPP layout .. The sheet is the one defined there"
+-- ---- Demand 2: what is framed rightly is read, and nothing else; what comes of it is the sheet that is defined; both ways back
 
 -- What is read is its sheet: it stands at the buffer's start, and nothing else changed.
 pub the-sheet-defined :
     (r : ReadCall) → IsRead r → Gives (reading.Sheet (length (sheetFor r))) (sheetFor r) (r .buffer) (r .said) (r .held)
 the-sheet-defined r i = let x = was-read r i in gives (r .promised) (ap readingOf (x .answer)) (x .answer) (x .room)
 
--- Given an accepted kind and flags, at most 4,076 octets and room, an area is read exactly when it is well framed.
+-- With a kind, flags and a length that are taken, and room for the sheet, being read and being well framed are one.
 pub read-when-framed : (r : ReadCall) → Given r → IsRead r ↔ WellFramed (r .area)
 read-when-framed r g = (there, back)
   where
@@ -97,7 +97,7 @@ read-when-framed r g = (there, back)
         let answer = read-exactly (r .kind) (r .flags) (r .area) (length (r .buffer)) (sheetFor r) .1 (clean, g .room, refl) in
         record { size = length (sheetFor r); is = r .promised .says ∙ ap readingOf answer }
 
--- "Given room, writing a sheet made by reading gives the same octets, kind and flags"
+-- Where there is room, writing what was read gives back area, kind and flags.
 pub there-and-back :
     (r : ReadCall) (i : IsRead r) (w : WriteCall) → WritesBack r i w
     → Gives (writing.Area (length (r .area)) (r .kind) (r .flags)) (r .area) (w .buffer) (w .said) (w .held)
@@ -121,7 +121,7 @@ back-and-there w i r b =
     let answer = read-exactly (r .kind) (r .flags) (r .area) (length (r .buffer)) (w .sheet) .1 (clean, room, sym has) in
     gives (r .promised) (ap readingOf answer) answer (b .room)
 
--- "a sheet is written exactly when some readable area has it": whatever the room, no other is written;
+-- "exactly when some readable area": whatever the room, no other sheet is written;
 pub written-has-area : (w : WriteCall) → IsWritten w → Writable (versionIn (w .sheet)) (w .sheet)
 written-has-area w i =
     let x = was-written w i in
@@ -152,7 +152,7 @@ one-sheet-one-area r i r′ i′ e =
     let x′ = was-read r′ i′ in
     one-area current _ _ (r .area) _ _ (r′ .area) (x .readable) (x′ .readable) (sym (x .sheet-is) ∙ e ∙ x′ .sheet-is)
 
--- ---- Demand 3: "the list has exactly one entry for each breach that document 01 defines, and nothing else, in rising order"
+-- ---- Demand 3: the list rises, each breach has its one entry in it, and it has no other entry
 
 -- Every area has a list of exactly its breaches, in rising order,
 pub some-list : (k : CheckCall) → ListsBreaches k (listOf (k .comes) (k .area))
@@ -162,7 +162,7 @@ some-list k = list-lists (k .comes) (k .area) (k .octets)
 pub no-other-list : (k : CheckCall) (l m : List ℕ) → ListsBreaches k l → ListsBreaches k m → l ≡ m
 no-other-list k l m p q = one-list _ l m p q
 
--- For a readable area, accepted kind and flags, and room for as many entries as such a list has, the answer is that list.
+-- Where the area is readable, kind and flags are taken and there is room for such a list, the answer is that list.
 pub list-of-breaches :
     (k : CheckCall) → ReadableCall k → (l : List ℕ) → ListsBreaches k l → length l ≤ length (k .buffer)
     → Gives (checking.List (length l)) l (k .buffer) (k .said) (k .held)

@@ -1,6 +1,6 @@
--- Idle builds that the promises shut out: one that refuses everything, one whose list is fixed, one that writes nothing, one that
--- decodes the first attribute and stores the rest raw, one that invents the number of entries. A build is what it answers and what it
--- leaves in the lent buffer, for every input. Each is idle on readable areas with room and may do all else right. Assumes nothing.
+-- Idle builds that the promises shut out: everything is refused; the list is the same for all; nothing is written; only the first
+-- attribute is decoded; the number of entries is made up. A build is what it answers and what it leaves in the lent
+-- buffer, for every input. Each is idle on readable areas with room and may do all else right. Assumes nothing.
 use mathlib.Core.Path.{_≡_, refl, sym, ap, _∙_}
 use mathlib.Core.Bool.{cond}
 use mathlib.Core.List.{List, [], _∷_, _++_}
@@ -71,7 +71,7 @@ pub record Refusing (said : Reading) : Type 0 where
   pub what : Refusal
   pub is : said ≡ reading.Refused what
 
--- One that refuses everything is shut out by demand 2's "exactly when": P1 is read.
+-- A build that refuses everything: demand 2 says when an area is read, and P1 is.
 pub refuses-everything :
     (b : ReadBuild) → KeepsRead b → OnReadable (λ kind flags area buffer. Refusing (b kind flags area buffer .0)) → ⊥
 refuses-everything b keeps idle =
@@ -120,7 +120,7 @@ p1-fits : length (firstOnly 4 0 areaA) ≤ 26
 unfolding computing
 p1-fits = omega arith
 
--- One that decodes the first attribute and stores the rest raw is shut out by the only-form rule: P1's second item has form 4.
+-- A build that stores all but the first attribute as they stand: a form is no free choice, and P1's second item has form 4.
 pub decodes-the-first :
     (b : ReadBuild) → KeepsRead b
     → OnReadable (λ kind flags area buffer. FirstOnly kind flags area buffer (b kind flags area buffer .1)) → ⊥
@@ -143,7 +143,7 @@ pub record Listable (c : Context) (area buffer l : List ℕ) : Type 0 where
   pub lists : Lists l (Breach c (length area) (attributes (walk area)))
   pub room : length l ≤ length buffer
 
--- One that invents the number of entries is shut out by demand 3: the number is the length of any list of exactly the breaches.
+-- A build that makes the number of entries up: it is the length of any list of exactly the breaches.
 pub number-invented :
     (b : CheckBuild) → KeepsCheck b → (c : Context) (area buffer l : List ℕ) → Listable c area buffer l
     → (n : ℕ) → b c area buffer .0 ≡ checking.List n → n ≡ length l
@@ -190,7 +190,7 @@ module _ (buffer : List ℕ) (room : 3 ≤ length buffer) where
 abbrev pub OnListable : ((c : Context) (area buffer : List ℕ) → Type 0) → Type 0
 OnListable Does = (c : Context) (area buffer l : List ℕ) → Listable c area buffer l → Does c area buffer
 
--- One whose list is fixed, say empty, and given wherever it has room too, is shut out by demand 3 with P4 and P5.
+-- A build with one list for all, given wherever that has room too: P4 and P5 have different ones.
 pub list-fixed :
     (b : CheckBuild) → KeepsCheck b → (l : List ℕ)
     → OnListable (λ c area buffer. length l ≤ length buffer → b c area buffer .0 ≡ checking.List (length l)) → ⊥

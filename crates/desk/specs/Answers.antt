@@ -1,4 +1,4 @@
--- What the desk's answers stand for, in the numbers and values of document 01. Assumes nothing.
+-- What the desk's answers stand for, in the numbers and values of the book. Assumes nothing.
 use Prim.Native.Nat.{ℕ}
 use mathlib.Core.List.{List}
 use lib.ListN.{length}

@@ -101,14 +101,14 @@ pub record IsWritten (w : WriteCall) : Type 0 where
 
 -- ---- What the demands suppose
 
--- "Given an accepted kind and flags, at most 4,076 octets and a buffer with room"
+-- what demand 2 takes as given: kind, flags and length are accepted, and the sheet has room
 pub record Given (r : ReadCall) : Type 0 where
   pub kind-ok : isKind (r .kind) ≡ true
   pub flags-ok : areFlags (r .flags) ≡ true
   pub short : length (r .area) ≤ 4076
   pub room : length (sheetFor r) ≤ length (r .buffer)
 
--- "Given room, writing a sheet made by reading": w writes what r read
+-- "writing a sheet made by reading", with room: w writes what r read
 pub record WritesBack (r : ReadCall) (i : IsRead r) (w : WriteCall) : Type 0 where
   pub made : w .sheet ≡ take (i .size) (r .held)
   pub room : length (r .area) ≤ length (w .buffer)
@@ -120,10 +120,10 @@ pub record ReadsBack (w : WriteCall) (i : IsWritten w) (r : ReadCall) : Type 0 w
   pub flags-is : r .flags ≡ i .flags
   pub room : length (w .sheet) ≤ length (r .buffer)
 
--- "For every readable area, accepted kind and flags"
+-- a check of a "readable area, accepted kind and flags"
 abbrev pub ReadableCall : CheckCall → Type 0
 ReadableCall k = Readable (k .comes .kind) (k .comes .flags) (k .area)
 
--- "exactly one entry for each breach that document 01 defines, and nothing else, in rising order": the lists that have this
+-- the lists that demand 3 speaks of: rising, and with exactly the entries of the breaches
 abbrev pub ListsBreaches : CheckCall → List ℕ → Type 0
 ListsBreaches k l = Lists l (Breach (k .comes) (length (k .area)) (attributes (walk (k .area))))

@@ -1,5 +1,5 @@
 // The desk: read, check and write, for callers in Rattle, which need this crate alone, and for callers in C and Rust, by the exports
-// whose names begin with gir_. Every entry takes any octets and any numbers and refuses bad ones by number.
+// whose names begin with gir_. An entry takes whatever it is given, and refuses by number what it cannot take.
 ghost use mathlib.Core.Path.{_≡_};
 ghost use Rattle.meaning.specs.Jobs.{comes};
 ghost use Rattle.desk.specs.Answers.{Read, Checked, Wrote, doneOf, refusedOf, ReadOut, CheckedOut, WroteOut};
@@ -49,7 +49,7 @@ pub struct Answer {
     pub flags: u32,
 }
 
-// "Read: attribute area, kind and flags give a sheet", at the buffer's start; a refusal leaves the buffer as it was.
+// Read: the sheet of an area, at the buffer's start; a refusal leaves the buffer as it was.
 pub fn read(area: &[u8], kind: u32, flags: u32, sheet: &mut [u8]) -> Reading
     ensures { λ r. ⌜ Read kind flags (now (area .entry)) (now (sheet .entry)) r (now (sheet .exit)) ⌝ }
 {
@@ -66,7 +66,7 @@ pub fn read(area: &[u8], kind: u32, flags: u32, sheet: &mut [u8]) -> Reading
     }
 }
 
-// "Check: the same inputs give a list of breaches", at the buffer's start; a refusal leaves the buffer as it was.
+// Check: the list of an area's breaches, at the buffer's start; a refusal leaves the buffer as it was.
 pub fn check(area: &[u8], kind: u32, flags: u32, list: &mut [u32]) -> Checking
     ensures { λ r. ⌜ Checked (comes kind flags) (now (area .entry)) (now (list .entry)) r (now (list .exit)) ⌝ }
 {
@@ -83,7 +83,7 @@ pub fn check(area: &[u8], kind: u32, flags: u32, list: &mut [u32]) -> Checking
     }
 }
 
-// "Write: a sheet gives back area, kind and flags", the area at the buffer's start; a refusal leaves the buffer as it was.
+// Write: what a sheet was read from, the area at the buffer's start; a refusal leaves the buffer as it was.
 pub fn write(sheet: &[u8], area: &mut [u8]) -> Writing
     ensures { λ r. ⌜ Wrote (now (sheet .entry)) (now (area .entry)) r (now (area .exit)) ⌝ }
 {

@@ -1,5 +1,5 @@
-// gir_check: an attribute area with its kind and flags, from standard input or from the file that the argument names: a kind octet,
-// a flags octet, then the area. Prints each entry of the list of breaches as eight upper-case hexadecimal digits on a line, nothing for
+// gir_check: an attribute area with its kind and flags, from standard input or from the file that the argument names: the kind and
+// the flags in an octet each, and the area. Prints the list of breaches, a line of eight hexadecimal digits for each entry, nothing for
 // an empty list, or one line: `refused N S` or `short`; what it prints is `printing::check` of the input. With `--status` as first
 // argument the last act is to write a digit to descriptor 3.
 use libc::STDERR_FILENO;

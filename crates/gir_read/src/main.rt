@@ -1,6 +1,6 @@
-// gir_read: an attribute area with its kind and flags, from standard input or from the file that the argument names: a kind octet,
-// a flags octet, then the area. Prints the sheet, raw, or one line: `refused N S` or `short`; what it prints is `printing::read` of the
-// input. With `--status` as first argument the last act is to write a digit to descriptor 3.
+// gir_read: an attribute area with its kind and flags, from standard input or from the file that the argument names: the kind and
+// the flags in an octet each, and the area. Prints the sheet, raw, or one line: `refused N S` or `short`; what it prints
+// is `printing::read` of the input. With `--status` as first argument the last act is to write a digit to descriptor 3.
 use libc::STDERR_FILENO;
 use libc::STDIN_FILENO;
 use libc::STDOUT_FILENO;

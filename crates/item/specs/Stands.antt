@@ -1,4 +1,4 @@
--- 23, "an item that no readable attribute gives", of an item whose head and stored octets are there: by its form, and for form 2 to 7
+-- 23, "no readable attribute gives", of an item whose head and stored octets are there: by its form, and for form 2 to 7
 -- by the shape of its number. Assumes nothing.
 use Prim.Native.Nat.{ℕ}
 use mathlib.Core.Bool.{Bool, false, cond, not, _&&_}
@@ -19,7 +19,7 @@ standsFor t s f c st =
     carries (numberIn t s f) (valueIn current (numberIn t s f) f c st)
     && same (item current (numberIn t s f) (valueIn current (numberIn t s f) f c st)) (t ∷ s ∷ f ∷ c ∷ st)
 
--- "another vendor's type 26, id included"
+-- "another vendor's type 26", with its id
 unfoldable pub otherVendor : List ℕ → Bool
 otherVendor v = leb 5 (length v) && not (eqb (numberOf (take 4 v)) vendor3gpp)
 

@@ -101,7 +101,7 @@ pub fn is_raw(number: u16, code: u8, form: u8, value: &[u8]) -> bool
     carries(number, value)
 }
 
-// Whether octets are a QoS profile: "release octet 98 or 99, then 3 or 11 octets".
+// Whether octets are those of a QoS text: the release, 98 or 99, and as many octets as it has.
 pub fn holds_qos(stored: &[u8]) -> bool
     ensures { λ r. ⌜ r ≡ held qos 0 (now (stored .entry)) ⌝ }
 {

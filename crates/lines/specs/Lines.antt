@@ -1,4 +1,4 @@
--- The lines that the programs print: an entry as eight upper-case hexadecimal digits; a refusal as the word "refused", its number and
+-- The lines that the programs print: an entry as eight digits, hexadecimal with capitals; a refusal as the word "refused", its number and
 -- its second number in decimal, one space between. A line ends in one line feed. Assumes nothing.
 use mathlib.Core.Path.{_≡_}
 use Prim.Native.Nat.{ℕ, zero, suc, _+_, _-_, _/_, _%_}
@@ -38,7 +38,7 @@ lineFeed = 10
 abbrev pub refusedWord : List ℕ
 refusedWord = 114 ∷ 101 ∷ 102 ∷ 117 ∷ 115 ∷ 101 ∷ 100 ∷ space ∷ []
 
--- "one line of "refused", the number and the second number, both in decimal, with one space between"
+-- the line of a refusal: "refused" and its two numbers "in decimal, with one space between"
 unfoldable pub refusalLine : (number second : ℕ) → List ℕ
 refusalLine n s = refusedWord ++ (decimal n ++ ((space ∷ []) ++ (decimal s ++ (lineFeed ∷ []))))
 
@@ -56,8 +56,8 @@ pub record StartLaid (s d : List ℕ) (said : ℕ) (held : List ℕ) : Type 0 wh
   pub says : said ≡ cond (fitsAt 0 s d) (length s) 0
   pub holds : held ≡ laidAt 0 s d
 
--- the second number as a program tells it, which kept no more of an area than decides the answer: for 3, "area over 4,076 octets", "its
--- length", that is all octets of the input but the kind's and the flags'
+-- the second number as a program tells it, which kept no more of an area than decides the answer: for 3 the area's
+-- length, that is all octets of the input but the kind's and the flags'
 unfoldable pub secondTold : (number second all : ℕ) → ℕ
 secondTold n s all = cond (eqb n 3) (all - 2) s
 

@@ -1,4 +1,4 @@
-// The lines that the programs print, as text: document 01's line of a refusal and of an entry, and the pieces that other lines are made of.
+// The lines that the programs print, as text: the line of a refusal and of an entry, and the pieces that other lines are made of.
 // Nothing here prints. Each public function takes any arguments.
 ghost use mathlib.Core.Path.{_≡_};
 ghost use Prim.Native.Nat.{_*_, _≤_};

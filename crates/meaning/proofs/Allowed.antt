@@ -1,5 +1,5 @@
--- Document 01, "Allowed values", and the lines of rules 5 to 7, spelt out: for every limited number and kind the values that are allowed,
--- and what the end of an area breaks by the numbers that are present. Assumes nothing.
+-- The allowed values of the book's table "The numbers", and the lines of rules 5 to 7, spelt out: for every limited
+-- number and kind the values that are allowed, and what the end of an area breaks by the numbers that are present. Assumes nothing.
 use mathlib.Core.Path.{_≡_, refl}
 use mathlib.Core.Bool.{Bool, true, false, not, _&&_}
 use mathlib.Core.List.{List, [], _∷_, _++_, map}
@@ -25,13 +25,13 @@ fit kind n x = may kind n (octetsOf 4 x)
 
 -- ---- Allowed values
 
--- "6 is 2 (Framed). 7 is 7. 45 is 1 or 2. 49 is 1 to 18. .. 3GPP 3 is 0", whatever the kind, among 0 to 260
+-- the values of 6, 7, 45, 49 and 3GPP 3, whatever the kind, among 0 to 260
 pub numbers-allowed : (kind : ℕ) →
     map (λ n. those (fit kind n) 261) (6 ∷ 7 ∷ 45 ∷ 49 ∷ gpp 3 ∷ []) ≡ (2 ∷ []) ∷ (7 ∷ []) ∷ (1 ∷ 2 ∷ []) ∷ span 1 18 ∷ (0 ∷ []) ∷ []
 unfolding computing
 numbers-allowed kind = refl
 
--- "40 is 1, 2, 7, 8, 3 for kinds 2, 3, 4, 5, 6, and free in kind 1"
+-- the values of 40, by the kind
 pub status-allowed : map (λ kind. those (fit kind 40) 261) (span 2 6) ≡ map (λ x. x ∷ []) (1 ∷ 2 ∷ 7 ∷ 8 ∷ 3 ∷ [])
 unfolding computing
 status-allowed = refl
@@ -56,7 +56,7 @@ pub upper-zero-status :
 unfolding computing
 upper-zero-status = refl
 
--- "11 is 255; 12 is 0 to 2", of all octets and of all digits
+-- the values of 3GPP 11 and 12, of all octets and of all digits
 pub octets-allowed : (kind : ℕ) →
     (those (λ x. may kind (gpp 11) (x ∷ [])) 256 ≡ 255 ∷ []) × (those (λ x. may kind (gpp 12) ((0x30 + x) ∷ [])) 10 ≡ 0 ∷ 1 ∷ 2 ∷ [])
 unfolding computing
@@ -108,7 +108,7 @@ pub lacked : map (λ kind. ends kind 0 (4 ∷ [])) kinds ≡
 unfolding computing
 lacked = refl
 
--- rule 7, "All kinds: neither 4 nor 32 (entry names 4)"
+-- rule 7, "neither 4 nor 32", in every kind
 pub nameless : map (λ kind. late kind 0 []) kinds ≡ replicate 6 (entry 9 7 4 ∷ [])
 unfolding computing
 nameless = refl
@@ -117,7 +117,7 @@ pub named : map (λ kind. late kind 0 (4 ∷ []) ++ late kind 0 (32 ∷ [])) kin
 unfolding computing
 named = refl
 
--- rule 7, "Kind 1: 2 with flag 1; 3 and 60, each, with flag 2. Kind 2: 25 with flag 4"
+-- rule 7, what the flags make necessary
 pub flagged :
     map (λ kind. map (λ flags. late kind flags (4 ∷ [])) flagNumbers) kinds
     ≡ ([] ∷ (entry 9 7 2 ∷ []) ∷ (entry 9 7 3 ∷ entry 9 7 60 ∷ []) ∷ [] ∷ (entry 9 7 2 ∷ []) ∷ (entry 9 7 3 ∷ entry 9 7 60 ∷ []) ∷ [])
@@ -125,7 +125,7 @@ pub flagged :
 unfolding computing
 flagged = refl
 
--- rule 7, "Kinds 1, 2, 3, 6: 3GPP 3 when plain attribute 7 is present"
+-- rule 7, "when plain attribute 7": the PDP type is wanted
 pub pdp-type-asked : those (λ kind. asksPdpType (comes kind 0)) 256 ≡ 1 ∷ 2 ∷ 3 ∷ 6 ∷ []
 unfolding computing
 pdp-type-asked = refl
@@ -136,7 +136,7 @@ pub pdp-type :
 unfolding computing
 pdp-type = (refl, refl)
 
--- rule 5, "kind 1, a plain 2 and a plain 3 both present (one entry, naming 3)"
+-- rule 5, "both present", in kind 1
 pub both-passwords : map (λ kind. late kind 0 (2 ∷ 3 ∷ 4 ∷ [])) kinds ≡ (entry 9 5 3 ∷ []) ∷ replicate 5 []
 unfolding computing
 both-passwords = refl

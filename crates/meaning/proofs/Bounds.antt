@@ -1,5 +1,5 @@
--- Bounds of a sheet: it is never longer than 9 + 2 x area length, its item count fits 16 bits, and it is made of octets, its counts
--- among them. Assumes nothing.
+-- Bounds of a sheet: it has at most twice the area's octets and nine more, its item count fits 16 bits, and it is made of octets,
+-- its counts among them. Assumes nothing.
 use mathlib.Core.Path.{_≡_, refl, ap}
 use mathlib.Core.Logic.{inl, inr}
 use mathlib.Core.Bool.{Bool, true, false, cond, _&&_}
@@ -40,7 +40,7 @@ pub sheet-length : (ver : Version) (kind flags : ℕ) (l : List Attribute) → l
 unfolding sheetWith sheetHead octetsOf
 sheet-length ver kind flags l = omega arith
 
--- The sheet of a readable area is never longer than 9 + 2 x area length.
+-- "never longer than 9 + 2", times the area's length: the sheet of a readable area.
 pub sheet-bound :
     (ver : Version) (kind flags : ℕ) (area : List ℕ) → Readable kind flags area
     → length (sheetAs ver kind flags area) ≤ 9 + 2 * length area

@@ -1,4 +1,4 @@
--- The edges of document 01's lines, computed: for each kind of answer a table of inputs with what the definitions say of them.
+-- The edges of the lines, computed: for each kind of answer a table of inputs with what the definitions say of them.
 -- Assumes nothing.
 use mathlib.Core.Path.{_≡_, refl}
 use mathlib.Core.List.{List, [], _∷_, _++_, map}

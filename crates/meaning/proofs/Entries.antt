@@ -60,7 +60,7 @@ one-name n n' k k' e = go (ltb n 256) (ltb n' 256) refl refl e
     go false true q q' e = absurd (k' .1 (omega (arith, ltb-true)))
     go false false q q' e = omega (arith, ltb-false)
 
--- "place x 1,048,576 + rule x 65,536 + type x 256 + sub-attribute number": an entry has one place, rule and number
+-- An entry has one place, rule and number.
 pub one-breach : (p r n p' r' n' : ℕ) →
     r ≤ 7 → r' ≤ 7 → T (canBreak n) → T (canBreak n') → entry p r n ≡ entry p' r' n' → (p ≡ p') × (r ≡ r') × (n ≡ n')
 unfolding entry

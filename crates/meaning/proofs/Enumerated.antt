@@ -1,4 +1,4 @@
--- The lines of document 01 that name numbers, spelt out over all 512 carried numbers (3GPP s stands as 256 + s): which have a form, which
+-- The lines that name numbers, spelt out over all 512 carried numbers (3GPP s stands as 256 + s): which have a form, which
 -- have a shape, and which rules 3, 4, 6 and 7 speak of, by kind and flags. Assumes nothing.
 use mathlib.Core.Path.{_≡_, refl}
 use mathlib.Core.Bool.{Bool, not}

@@ -1,5 +1,5 @@
--- The forms: a value comes back from what is stored of it, forms 2 to 7 are used exactly when the value meets its shape, and what
--- is stored is no longer than the value. Assumes nothing.
+-- The forms: a value comes back from what is stored of it, a form from 2 to 7 is used where the value meets its shape and nowhere else,
+-- and what is stored is no longer than the value. Assumes nothing.
 use mathlib.Core.Path.{_≡_, refl, sym, ap, _∙_}
 use mathlib.Core.Logic.{_⊎_, inl, inr, ⊎-elim, _↔_}
 use mathlib.Core.Bool.{Bool, true, false, cond, _&&_}
@@ -34,7 +34,7 @@ pub raw-low : (b : Bool) → cond b 0 1 ≤ 1
 raw-low true = omega arith
 raw-low false = omega arith
 
--- Forms 2 to 7 are used exactly when the number has one and the value meets its shape.
+-- "used exactly when the value meets": a form from 2 to 7, where the number has one.
 pub only-form : (ver : Version) (n : ℕ) (v : List ℕ) → T (leb 2 (form ver n v)) ↔ (HasForm n × T (meets ver (shapeOf n) v))
 unfolding form decodes
 only-form ver n v = (there, back)

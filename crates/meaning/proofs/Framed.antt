@@ -1,4 +1,4 @@
--- Document 01, "Framing", spelt out: what stands at the front of some octets, for every type, every length, every m and every octet of
+-- The book, "Framing", spelt out: what stands at the front of some octets, for every type, every length, every m and every octet of
 -- the vendor id; the kinds and flags that are allowed, and the two orders of the refusal book. Assumes nothing.
 use mathlib.Core.Path.{_≡_, refl}
 use mathlib.Core.Bool.{not}
@@ -16,7 +16,7 @@ use Rattle.meaning.proofs.Enumerated.{those, span, kinds, flagNumbers}
 
 -- ---- Kinds and flags
 
--- "Kinds: 1 .. 6 ..", "Allowed flag numbers are 0, 1, 2, 4, 5 and 6"
+-- the kinds, and the "allowed flag numbers"
 pub accepted : (those isKind 300 ≡ kinds) × (those areFlags 300 ≡ flagNumbers)
 unfolding computing
 accepted = (refl, refl)
@@ -52,7 +52,7 @@ pub types :
 unfolding computing
 types = refl
 
--- 7, then 8: "2 <= m <= 248 and m = n - 6", at every n with its m, and at every m
+-- 7, then 8: every n with its m, and every m
 pub vendor-lengths :
     (map (λ n. stands 26 n (ours (n - 6))) (span 2 255)
     ≡ replicate 5 (7 ∷ []) ++ (8 ∷ []) ∷ map (λ n. gpp 5 ∷ 8 ∷ n ∷ []) (span 8 254) ++ (8 ∷ []) ∷ [])
@@ -107,7 +107,7 @@ checks kind flags area = checkAnswer (comes kind flags) area 0
 abbrev writes : List ℕ → Answer Written
 writes sheet = writeAnswer sheet 0
 
--- "1, 2, 3, then the first attribute from the left that fails, tested 4 to 8 in that order, then 9 (read) or 10 (check)"
+-- "order for read and check", each refusal where the later ones would apply too
 pub area-order :
     (reads 0 3 (replicate 4077 0) ≡ refused 1 0) × (reads 1 3 (replicate 4077 0) ≡ refused 2 0)
     × (reads 1 0 (replicate 4077 0) ≡ refused 3 4077) × (reads 1 0 (0 ∷ 2 ∷ 26 ∷ 1 ∷ 4 ∷ []) ≡ refused 5 2)
@@ -116,7 +116,7 @@ pub area-order :
 unfolding computing
 area-order = (refl, refl, refl, refl, refl, refl, refl, refl, refl)
 
--- "20, 21, items from the left (22 before 23 on one item), remaining octets, 24, 25"
+-- the order for writing, each refusal where the later ones would apply too
 pub sheet-order :
     (writes (0 ∷ front ++ 7 ∷ 3 ∷ 0 ∷ 1 ∷ []) ≡ refused 20 0) × (writes (front ++ 7 ∷ 0 ∷ 0 ∷ 1 ∷ []) ≡ refused 21 0)
     × (writes (front ++ 1 ∷ 0 ∷ 0 ∷ 2 ∷ 0 ∷ 0 ∷ 0 ∷ 0 ∷ 0 ∷ 0 ∷ 9 ∷ 1 ∷ []) ≡ refused 22 13)

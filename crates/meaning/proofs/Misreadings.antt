@@ -1,4 +1,4 @@
--- Document 01, "Misreadings that must not pass": for each, a fact of the meaning that the misreading would make false.
+-- "Misreadings that must not pass": for each, a fact of the meaning that the misreading would make false.
 -- Assumes nothing.
 use mathlib.Core.Path.{_≡_, refl}
 use mathlib.Core.List.{List, [], _∷_, _++_}
@@ -49,7 +49,7 @@ pub far-apart : listOf (comes 1 0) (plainRequest ++ attributeOctets 1 (66 ∷ []
 unfolding computing
 far-apart = refl
 
--- m = 248 (n = 254) is read, and m = 249 (n = 255) is refused by 8.
+-- A sub-attribute of 248 octets is read, one of 249 is refused by 8.
 pub m-248 : areaRefusal 1 0 (attributeOctets (gpp 13) (replicate 246 0)) ≡ none
 unfolding computing
 m-248 = refl

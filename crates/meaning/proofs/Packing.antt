@@ -46,7 +46,7 @@ unpack-length (suc n) [] h = absurd (omega arith)
 unpack-length (suc zero) (x ∷ s) h = refl
 unpack-length (suc (suc n)) (x ∷ s) h = ap (λ (k : ℕ). suc (suc k)) (unpack-length n s (omega arith))
 
--- so many digits fill their octets: an odd last low half is 15
+-- so many digits fill their octets, the odd one with a low half of 15
 abbrev pub Filled : (count : ℕ) → List ℕ → Type 0
 Filled zero s = s ≡ []
 Filled (suc n) [] = ⊥

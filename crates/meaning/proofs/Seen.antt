@@ -1,4 +1,4 @@
--- P1 to P10 of document 01 in a single claim over the whole set: each answer is what the definitions say of it, by the relation where
+-- P1 to P10, the book's worked cases, in one claim: each answer is what the definitions say of it, by the relation where
 -- it is a list. Assumes nothing.
 use mathlib.Core.Path.{_≡_, refl, sym}
 use mathlib.Core.List.{List, [], _∷_, map}
@@ -21,7 +21,7 @@ abbrev answerTo : Job → (kind flags : ℕ) → List ℕ → Answer (List ℕ)
 answerTo read kind flags area = unless (areaRefusal kind flags area) (sheetOf kind flags area)
 answerTo check kind flags area = unless (areaRefusal kind flags area) (listOf (comes kind flags) area)
 
--- a computed answer means what document 01 says
+-- a computed answer means what the definitions say
 meant : (job : Job) (kind flags : ℕ) (area : List ℕ) (a : Answer (List ℕ)) → Octets area → answerTo job kind flags area ≡ a
     → Meant job kind flags area a
 meant read kind flags area (given s) o e =

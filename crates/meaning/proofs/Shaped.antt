@@ -1,4 +1,4 @@
--- Document 01, "Shapes and allowed values", its shapes spelt out: for every carried number the lengths from 0 to 253 at which a value
+-- The shapes of the book's table "The numbers", spelt out: for every carried number the lengths from 0 to 253 at which a value
 -- meets its shape, for a text the octets that may stand at a place, and what is stored. Assumes nothing.
 use mathlib.Core.Path.{_≡_, refl}
 use mathlib.Core.Bool.{Bool, true, not}
@@ -51,7 +51,7 @@ module _ (o : ℕ → ℕ) where
   unfolding computing
   octets-met = (refl, refl, refl)
 
-  -- "2 is 16 to 128 octets and a multiple of 16; 3 exactly 17", and 3GPP 11 "any one octet"
+  -- 2 in blocks of 16, "3 exactly 17", and 3GPP 11 "any one octet"
   pub exact-met :
       MetAt (any o) (map (λ k. 16 * k) (span 1 8)) (2 ∷ []) × MetAt (any o) (17 ∷ []) (3 ∷ []) × MetAt (any o) (1 ∷ []) (gpp 11 ∷ [])
   unfolding computing
@@ -137,7 +137,7 @@ pub one-octet :
 unfolding computing
 one-octet = (refl, refl, refl)
 
--- form 4: "two to an octet, first in the high half; an odd last low half is 15"; form 5 and form 6, each digit in its place
+-- form 4: "two to an octet", and the low half behind an odd digit; form 5 and form 6, each digit in its place
 pub packed :
     (map (λ k. itemised 31 (take k (span 0x31 0x39))) (1 ∷ 2 ∷ 8 ∷ 9 ∷ [])
     ≡ (31 ∷ 0 ∷ 4 ∷ 1 ∷ 0x1F ∷ []) ∷ (31 ∷ 0 ∷ 4 ∷ 2 ∷ 0x12 ∷ []) ∷ (31 ∷ 0 ∷ 4 ∷ 8 ∷ 0x12 ∷ 0x34 ∷ 0x56 ∷ 0x78 ∷ [])

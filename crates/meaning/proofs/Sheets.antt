@@ -1,5 +1,5 @@
 -- Demand 2, of the meaning: a sheet made by reading is judged to be its area, kind and flags; a sheet that the judgement accepts is
--- the sheet of what it gives; so a sheet is accepted exactly when some readable area has it, and it has one. Assumes nothing.
+-- the sheet of what it gives; so the accepted sheets are those of readable areas, and each has one area. Assumes nothing.
 use mathlib.Core.Path.{_≡_, refl, sym, ap, ap₂, _∙_}
 use mathlib.Core.Logic.{_↔_}
 use mathlib.Core.Bool.{Bool, true, false, not, _&&_}
@@ -218,7 +218,7 @@ accepted-sheet sheet o e =
       is = split sheet o (p .marked-is) ∙ rw (r .as-many, j .as-many, r .same-items, j .same-octets);
     }
 
--- A sheet is accepted exactly when some readable area has it, in the sheet's version.
+-- "exactly when some readable area": a sheet is accepted, in its own version.
 pub written-exactly : (sheet : List ℕ) → Octets sheet → judged sheet ≡ none ↔ Writable (versionIn sheet) sheet
 written-exactly sheet o = (there, back)
   where

@@ -18,11 +18,11 @@ abbrev pub unless : {A : Type 0} → Refusal → A → Answer A
 unless none a = given a
 unless (refusal n s) a = refused n s
 
--- "Success changes only the octets or entries written, from the buffer's start": s over the start of the buffer d
+-- "from the buffer's start": s over the start of the buffer d
 unfoldable pub over : (s d : List ℕ) → List ℕ
 over s d = s ++ drop (length s) d
 
--- "Success changes only the octets or entries written": s stands at the start of the buffer d, and the rest is as it was
+-- "Success changes only": s stands at the start of the buffer d, and the rest is as it was
 pub record LaidOver (s d out : List ℕ) : Type 0 where
   pub start : take (length s) out ≡ s
   pub rest : drop (length s) out ≡ drop (length s) d
@@ -40,7 +40,7 @@ pub record Promise {X : Type 0} (answer : X) (lays : Answer (List ℕ)) (buffer 
 
 -- ---- Read
 
--- "Read: attribute area, kind and flags give a sheet"
+-- Read: "kind and flags give a sheet", or the first refusal that applies
 unfoldable pub readAnswer : (kind flags : ℕ) (area : List ℕ) (room : ℕ) → Answer (List ℕ)
 readAnswer kind flags area room =
     unless (areaOrder kind flags area 9 (length (sheetOf kind flags area)) room) (sheetOf kind flags area)
@@ -53,7 +53,7 @@ Reads show kind flags area buffer said held =
 
 -- ---- Check
 
--- "Check: the same inputs give a list of breaches"
+-- Check: "a list of breaches", or the first refusal that applies
 unfoldable pub checkAnswer : Context → (area : List ℕ) (room : ℕ) → Answer (List ℕ)
 checkAnswer c area room =
     unless (areaOrder (c .kind) (c .flags) area 10 (length (listOf c area)) room) (listOf c area)
@@ -65,13 +65,13 @@ Checks show c area buffer said held =
 
 -- ---- Write
 
--- "a sheet gives back area, kind and flags"
+-- what "a sheet gives back"
 pub record Written : Type 0 where
   pub kind : ℕ
   pub flags : ℕ
   pub area : List ℕ
 
--- "Write: a sheet gives back area, kind and flags"; 25 is the last of its refusals
+-- Write: what "a sheet gives back"; 25 is the last of its refusals
 unfoldable pub writeAnswer : (sheet : List ℕ) (room : ℕ) → Answer Written
 writeAnswer sheet room =
     unless (first (judged sheet) (tooShort 25 (length (areaIn sheet)) room))

@@ -1,4 +1,4 @@
--- Document 01, "Breaches": the entry, the lines of the rules, the breaches as a relation over an area's attributes, and the list
+-- The book, "Breaches": the entry, the lines of the rules, the breaches as a relation over an area's attributes, and the list
 -- that has exactly these in rising order. Assumes nothing.
 use mathlib.Core.Path.{_≡_}
 use mathlib.Core.Logic.{_⊎_, _↔_}
@@ -14,7 +14,7 @@ use Rattle.meaning.specs.Shapes.{shapeOf, meets, allowed}
 use Rattle.meaning.specs.Sheet.{typeOf, subOf}
 use Rattle.meaning.specs.Presence.{isSession, notPermitted, mandatory, conditional}
 
--- "place x 1,048,576 + rule x 65,536 + type x 256 + sub-attribute number (0 if none)"
+-- "one 32-bit number", made of place, rule, type and sub-attribute number
 unfoldable pub entry : (place rule number : ℕ) → ℕ
 entry place rule n = place * 1048576 + (rule * 65536 + (typeOf n * 256 + subOf n))
 
@@ -24,7 +24,7 @@ entry place rule n = place * 1048576 + (rule * 65536 + (typeOf n * 256 + subOf n
 abbrev pub met : Attribute → Bool
 met a = meets current (shapeOf (a .number)) (a .value)
 
--- rule 1: "it has a shape and misses it"
+-- rule 1: "has a shape and misses it"
 unfoldable pub misses : Attribute → Bool
 misses a = not (met a)
 
@@ -36,12 +36,12 @@ offends c a = met a && not (allowed c (a .number) (a .value))
 abbrev pub isListed3gpp : (number : ℕ) → Bool
 isListed3gpp n = between (gpp 1) (gpp 12) n || eqb n (gpp 18)
 
--- rule 3: "For plain 1 to 4, 6 to 9, 30 to 32, 40 to 49, 60, 61 and for 3GPP 1 to 12, 18"
+-- rule 3: the numbers that may stand once only
 unfoldable pub onceOnly : (number : ℕ) → Bool
 onceOnly n =
     between 1 4 n || (between 6 9 n || (between 30 32 n || (between 40 49 n || (isIn n (60 ∷ 61 ∷ []) || isListed3gpp n))))
 
--- rule 4: "not permitted here: 3GPP 11 outside kind 3; 3GPP 1 to 12, 18 in kinds 4 and 5", and the plain lines
+-- rule 4: "3GPP 11 outside kind 3", all listed of 3GPP in ON and OFF, and the plain lines
 unfoldable pub barred : Context → (number : ℕ) → Bool
 barred c n =
     (eqb n (gpp 11) && not (eqb (c .kind) 3)) || ((between 4 5 (c .kind) && isListed3gpp n) || notPermitted c n)
@@ -57,7 +57,7 @@ abbrev pub Among : {A : Type 0} → A → List A → Type 0
 Among a [] = ⊥
 Among a (x ∷ l) = (a ≡ x) ⊎ Among a l
 
--- "An attribute counts as present whatever its value."
+-- "counts as present whatever its value"
 pub record Present (n : ℕ) (l : List Attribute) : Type 0 where
   pub which : Attribute
   pub among : Among which l
@@ -78,7 +78,7 @@ pub data Wanted (c : Context) (l : List Attribute) (n : ℕ) : Type 0 where
   byFlags : T (conditional c n) → Wanted c l n
   byProtocol : T (asksPdpType c) → Present 7 l → n ≡ gpp 3 → Wanted c l n
 
--- "Rules 1 to 4 stand at the attribute's place, 5 to 7 at the area's length": the breaches, one case for each rule; e is the entry
+-- The breaches, one case for each rule: e is the entry, "at the attribute's place" or "at the area's length".
 pub data Breach (c : Context) (size : ℕ) (l : List Attribute) (e : ℕ) : Type 0 where
   shape1 : (a : Attribute) → Among a l → T (misses a) → e ≡ entry (a .place) 1 (a .number) → Breach c size l e
   value2 : (a : Attribute) → Among a l → T (offends c a) → e ≡ entry (a .place) 2 (a .number) → Breach c size l e
@@ -96,7 +96,7 @@ abbrev pub RisingFrom : (b : ℕ) → List ℕ → Type 0
 RisingFrom b [] = Unit {0}
 RisingFrom b (x ∷ l) = (b ≤ x) × RisingFrom (suc x) l
 
--- "exactly one entry for each breach .., and nothing else, in rising order"
+-- a list that rises and has exactly the numbers of P
 pub record Lists (l : List ℕ) (P : ℕ → Type 0) : Type 0 where
   pub rising : RisingFrom 0 l
   pub exact : (e : ℕ) → Among e l ↔ P e

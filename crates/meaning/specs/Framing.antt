@@ -1,4 +1,4 @@
--- Document 01, "Framing": the octets of an attribute and the areas that are made of such; then what stands at a place of an area, and the
+-- The book, "Framing": the octets of an attribute and the areas that are made of such; then what stands at a place of an area, and the
 -- walk over the area from the left, which finds the first fault. Assumes nothing.
 use mathlib.Core.Path.{_≡_}
 use Prim.Native.Nat.{ℕ, zero, suc, _+_, _-_, _<_}
@@ -74,11 +74,11 @@ pub data Found : Type 0 where
   refused : (number : ℕ) → Found
   nothing : Found
 
--- "with 2 <= m <= 248 and m = n - 6"
+-- "exactly one sub-attribute": m fits, and fills the n octets
 unfoldable pub oneSub : (n m : ℕ) → Bool
 oneSub n m = leb 2 m && (leb m 248 && eqb m (n - 6))
 
--- "Type 26 carries a four-octet vendor id", of length n; r stands after the length octet
+-- "a four-octet vendor id": type 26, of length n; r stands after the length octet
 unfoldable pub vendorFound : (n : ℕ) → List ℕ → Found
 vendorFound n r =
     cond (ltb n 7) (refused 7)
@@ -86,7 +86,7 @@ vendorFound n r =
     (cond (oneSub n (getD r 5 0)) (attribute (gpp (getD r 4 0)) 8 n) (refused 8))
     (attribute 26 2 n))
 
--- "An attribute is type, length, value; length counts all its octets", tested 4 to 8 in that order
+-- "length counts all its octets": what stands at the front, tested by 4, 5, 6, 7 and 8
 unfoldable pub found : List ℕ → Found
 found [] = nothing
 found (t ∷ []) = refused 4
@@ -120,7 +120,7 @@ from zero p (x ∷ l) = onward p (x ∷ l) (λ k. from k (suc p) l) (found (x �
 unfoldable pub walkAt : List ℕ → (place : ℕ) → Walk
 walkAt area p = from 0 p (drop p area)
 
--- the walk over a whole area: "the first attribute from the left that fails", or the end
+-- the walk over a whole area, "from the left": to its end, or to the first attribute that cannot be read
 unfoldable pub walk : List ℕ → Walk
 walk area = walkAt area 0
 

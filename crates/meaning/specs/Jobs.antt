@@ -1,15 +1,15 @@
--- Document 01, "The desk's three jobs": the kinds of message and the flags. Assumes nothing.
+-- The book, "Kinds and flags": the kinds of message and the flags. Assumes nothing.
 use Prim.Native.Nat.{ℕ, _/_, _%_}
 use mathlib.Core.Bool.{Bool}
 use mathlib.Core.List.{[], _∷_}
 use lib.Dec.{eqb}
 use Rattle.meaning.specs.Octets.{isIn, between}
 
--- "Kinds: 1 Access-Request, 2 Accounting START, 3 STOP, 4 ON, 5 OFF, 6 Interim-Update"
+-- "Kinds": Access-Request, then accounting START, STOP, ON, OFF and Interim-Update
 unfoldable pub isKind : ℕ → Bool
 isKind k = between 1 6 k
 
--- "Allowed flag numbers are 0, 1, 2, 4, 5 and 6, for every kind"
+-- "Allowed flag numbers", "for every kind"
 unfoldable pub areFlags : ℕ → Bool
 areFlags f = isIn f (0 ∷ 1 ∷ 2 ∷ 4 ∷ 5 ∷ 6 ∷ [])
 
@@ -21,7 +21,7 @@ pap f = eqb (f % 2) 1
 abbrev pub chap : ℕ → Bool
 chap f = eqb (f / 2 % 2) 1
 
--- "4 Class was received in the Access-Accept"
+-- "4 Class was received"
 abbrev pub class : ℕ → Bool
 class f = eqb (f / 4 % 2) 1
 

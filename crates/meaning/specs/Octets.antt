@@ -1,4 +1,4 @@
--- What document 01 takes for granted: octets, numbers with the high octet first, digits two to an octet, ASCII text.
+-- What the book takes for granted: octets, numbers with the high octet first, digits two to an octet, ASCII text.
 -- Octets are natural numbers below 256; an area, a value and a sheet are lists of them. Assumes nothing.
 use Prim.Native.Nat.{ℕ, zero, suc, _+_, _*_, _-_, _/_, _%_, _^_, _<_}
 use mathlib.Core.Bool.{Bool, true, false, cond, _&&_, _||_}
@@ -42,7 +42,7 @@ unfoldable pub octetsOf : (width number : ℕ) → List ℕ
 octetsOf zero n = []
 octetsOf (suc w) n = (n / 256 ^ w % 256) ∷ octetsOf w n
 
--- "two to an octet, first in the high half; an odd last low half is 15"
+-- "two to an octet", an odd last one with 15 beside it
 unfoldable pub pack : List ℕ → List ℕ
 pack [] = []
 pack (a ∷ []) = (a * 16 + 15) ∷ []
@@ -67,7 +67,7 @@ isDigit x = between 48 57 x
 abbrev pub isHex : ℕ → Bool
 isHex x = isDigit x || between 65 70 x
 
--- "one hexadecimal digit, stored 0 to 15": what a digit stands for
+-- "stored 0 to 15": what a digit stands for
 abbrev pub digitValue : ℕ → ℕ
 digitValue x = cond (leb x 57) (x - 48) (x - 55)
 

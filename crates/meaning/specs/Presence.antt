@@ -1,4 +1,4 @@
--- Document 01, "Breaches", the presence lines of rules 4, 6 and 7 for plain numbers, by what comes with the area and the number.
+-- The book, "The numbers", presence: the lines of rules 4, 6 and 7 for plain numbers, by what comes with the area and the number.
 -- Assumes nothing.
 use Prim.Native.Nat.{ℕ}
 use mathlib.Core.Bool.{Bool, not, _&&_, _||_}
@@ -11,7 +11,7 @@ use Rattle.meaning.specs.Jobs.{pap, chap, class, Context}
 abbrev pub isSession : (kind : ℕ) → Bool
 isSession kind = isIn kind (2 ∷ 3 ∷ 6 ∷ [])
 
--- rule 4: "plain 2, 3, 18, 24 in kinds 2 to 6 (RFC 2866)"
+-- rule 4: what RFC 2866 keeps out of accounting
 abbrev pub neverHere : (kind number : ℕ) → Bool
 neverHere kind n = between 2 6 kind && isIn n (2 ∷ 3 ∷ 18 ∷ 24 ∷ [])
 
@@ -23,7 +23,7 @@ asksClass kind n = isSession kind && eqb n 25
 unfoldable pub notPermitted : Context → (number : ℕ) → Bool
 notPermitted c n = neverHere (c .kind) n || (asksClass (c .kind) n && not (class (c .flags)))
 
--- rule 6: "mandatory. Kind 1: 1, 30. Kinds 2, 3, 6: 8, 30, 40, 44. Kinds 4, 5: nothing"
+-- rule 6: "mandatory", of an Access-Request and of a session's accounting; ON and OFF ask for nothing
 unfoldable pub mandatory : Context → (number : ℕ) → Bool
 mandatory c n =
     (eqb (c .kind) 1 && isIn n (1 ∷ 30 ∷ [])) || (isSession (c .kind) && isIn n (8 ∷ 30 ∷ 40 ∷ 44 ∷ []))
@@ -32,7 +32,7 @@ mandatory c n =
 abbrev pub withPap : (kind number : ℕ) → Bool
 withPap kind n = eqb kind 1 && eqb n 2
 
--- rule 7: "3 and 60, each, with flag 2"
+-- rule 7: "3 and 60, each"
 abbrev pub withChap : (kind number : ℕ) → Bool
 withChap kind n = eqb kind 1 && isIn n (3 ∷ 60 ∷ [])
 

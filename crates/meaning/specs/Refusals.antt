@@ -1,4 +1,4 @@
--- Document 01, "The refusal book": its numbers with their second numbers, and its two orders.
+-- The book, "Refusals": their numbers with their second numbers, and the two orders.
 -- 4 to 8 are found by the framing, 22 and 23 by the items of a sheet; both come here as a walk. Assumes nothing.
 use Prim.Native.Nat.{ℕ}
 use mathlib.Core.Bool.{Bool, true, false, not, _&&_}
@@ -37,7 +37,7 @@ tooShort n needed room = when (ltb room needed) n needed
 abbrev pub tooLong : (number size : ℕ) → Refusal
 tooLong n size = when (ltb 4076 size) n size
 
--- "3, then the first attribute from the left that fails, tested 4 to 8": what the framing alone refuses
+-- 3, then 4 to 8: what the framing alone refuses
 unfoldable pub framingRefusal : List ℕ → Refusal
 framingRefusal area = first (tooLong 3 (length area)) (fault (walk area))
 
@@ -45,7 +45,7 @@ framingRefusal area = first (tooLong 3 (length area)) (fault (walk area))
 unfoldable pub kindRefusal : (kind flags : ℕ) → Refusal
 kindRefusal kind flags = first (when (not (isKind kind)) 1 0) (when (not (areFlags flags)) 2 0)
 
--- "Order for read and check: 1, 2, 3, then the first attribute from the left that fails"
+-- "Order for read and check": 1 and 2, then the framing
 unfoldable pub areaRefusal : (kind flags : ℕ) → List ℕ → Refusal
 areaRefusal kind flags area = first (kindRefusal kind flags) (framingRefusal area)
 
@@ -53,7 +53,7 @@ areaRefusal kind flags area = first (kindRefusal kind flags) (framingRefusal are
 unfoldable pub areaOrder : (kind flags : ℕ) → List ℕ → (number needed room : ℕ) → Refusal
 areaOrder kind flags area n needed room = first (areaRefusal kind flags area) (tooShort n needed room)
 
--- "For write: 20, 21, items from the left (22 before 23 on one item), remaining octets, 24"
+-- the order for writing, but for 25: 20, 21, what the walk over the items ends in, 24
 unfoldable pub sheetRefusal : (marked : Bool) (kind flags : ℕ) (items : Walk) (areaLength : ℕ) → Refusal
 sheetRefusal marked kind flags items len =
     first (when (not marked) 20 0)

@@ -1,4 +1,4 @@
--- Document 01, "Seen at the desk": area A and the cases P1 to P10, as data. Assumes nothing.
+-- The book, "Worked cases": area A and the cases P1 to P10, as data. Assumes nothing.
 use Prim.Native.Nat.{ℕ}
 use mathlib.Core.List.{List, [], _∷_, _++_}
 use mathlib.Core.Path.{_≡_}
@@ -23,13 +23,13 @@ pub record Case : Type 0 where
   pub area : List ℕ
   pub says : Answer (List ℕ)
 
--- "Area A: 04 06 0A 00 00 01 1A 0D 00 00 28 AF 08 07 30 30 31 30 31"
+-- "Area A": a NAS-IP-Address and a 3GPP-IMSI-MCC-MNC
 abbrev pub areaA : List ℕ
 areaA =
     0x04 ∷ 0x06 ∷ 0x0A ∷ 0x00 ∷ 0x00 ∷ 0x01
     ∷ 0x1A ∷ 0x0D ∷ 0x00 ∷ 0x00 ∷ 0x28 ∷ 0xAF ∷ 0x08 ∷ 0x07 ∷ 0x30 ∷ 0x30 ∷ 0x31 ∷ 0x30 ∷ 0x31 ∷ []
 
--- "Kind 4, flags 0: the whole sheet is 47 49 52 00 01 04 00 00 02 .."
+-- "the whole sheet" of A, in kind 4 with flags 0
 abbrev pub sheetA : List ℕ
 sheetA =
     0x47 ∷ 0x49 ∷ 0x52 ∷ 0x00 ∷ 0x01 ∷ 0x04 ∷ 0x00 ∷ 0x00 ∷ 0x02
@@ -40,7 +40,7 @@ sheetA =
 abbrev pub asked : Job → (kind flags : ℕ) (area : List ℕ) (says : Answer (List ℕ)) → Case
 asked job kind flags area says = record { job = job; kind = kind; flags = flags; area = area; says = says }
 
--- "P6 to P10 hold for read and check"; "Kind is 1 and flags 0 where not named"
+-- a case that is asked of reading and of checking, in kind 1
 abbrev pub both : (flags : ℕ) (area : List ℕ) (says : Answer (List ℕ)) → List Case
 both flags area says = asked read 1 flags area says ∷ asked check 1 flags area says ∷ []
 
@@ -58,7 +58,7 @@ cases =
     ++ both 0 (0x1A ∷ 0x06 ∷ 0x00 ∷ 0x00 ∷ 0x28 ∷ 0xAF ∷ []) (refused 7 0)
     ++ both 3 [] (refused 2 0)
 
--- What document 01 says of an answer, given room: a sheet is that of the area, a list has exactly the breaches of its attributes,
+-- What is meant by an answer, given room: a sheet is that of the area, a list has exactly the breaches of its attributes,
 -- and a refusal is the first that applies.
 abbrev pub Meant : Job → (kind flags : ℕ) (area : List ℕ) → Answer (List ℕ) → Type 0
 Meant read kind flags area (given s) = (areaRefusal kind flags area ≡ none) × (s ≡ sheetOf kind flags area)

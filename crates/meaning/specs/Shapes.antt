@@ -1,4 +1,4 @@
--- Document 01, "Shapes and allowed values". A shape is what the value of a carried number has to look like. Assumes nothing.
+-- The book, "The numbers": shapes and allowed values. A shape is what the value of a carried number has to look like. Assumes nothing.
 use Prim.Native.Nat.{ℕ, _+_, _-_, _%_}
 use mathlib.Core.Bool.{Bool, true, cond, _&&_, _||_}
 use mathlib.Core.List.{List, [], _∷_}
@@ -10,7 +10,7 @@ use Rattle.meaning.specs.Jobs.{Context}
 use Rattle.meaning.specs.Framing.{gpp, isPlain}
 
 -- "Form 2, four octets", "Form 3", so many digits, "16 hexadecimal digits", a QoS text, "one hexadecimal digit", "any one octet",
--- "one decimal digit"; then the length rules: at least so many octets, "exactly 17", "16 to 128 octets and a multiple of 16"; and no shape
+-- "one decimal digit"; then the length rules: at least so many octets, "exactly 17", "a multiple of 16"; and no shape
 pub data Shape : Type 0 where
   number : Shape
   address : Shape
@@ -25,7 +25,7 @@ pub data Shape : Type 0 where
   blocks : Shape
   free : Shape
 
--- "Plain. Form 2 .. Form 0 with a length rule .. Any other number has no shape."
+-- "Plain": the shape of each number that has one
 unfoldable pub plainShape : ℕ → Shape
 plainShape t =
     cond (isIn t (6 ∷ 7 ∷ []) || (between 40 43 t || (between 45 49 t || eqb t 61))) number
@@ -37,7 +37,7 @@ plainShape t =
     (cond (eqb t 3) (exactly 17)
     (cond (eqb t 60) (atLeast 5) free)))))))
 
--- "3GPP. 1 IMSI .. Other numbers have no shape."
+-- "3GPP": the shape of each number that has one
 unfoldable pub gppShape : ℕ → Shape
 gppShape s =
     cond (eqb s 1) (digits 1 15)
@@ -53,7 +53,7 @@ gppShape s =
 unfoldable pub shapeOf : ℕ → Shape
 shapeOf n = cond (isPlain n) (plainShape n) (gppShape (n - 256))
 
--- "text "98-" and 6 hexadecimal digits (m = 11)": a release's two digits and a dash, then so many hexadecimal digits
+-- a QoS text of a release: its two digits, "the dash is one octet", then so many hexadecimal digits
 abbrev pub release : Version → (one two count : ℕ) → List ℕ → Bool
 release ver a b n v = same (take 3 v) (a ∷ b ∷ 45 ∷ []) && (eqb (length v) (3 + n) && all (isHexIn ver) (drop 3 v))
 
@@ -72,7 +72,7 @@ meets ver (exactly n) v = eqb (length v) n
 meets ver blocks v = between 16 128 (length v) && eqb (length v % 16) 0
 meets ver free v = true
 
--- "40 is 1, 2, 7, 8, 3 for kinds 2, 3, 4, 5, 6": the status that a kind other than 1 asks for
+-- the Acct-Status-Type that a kind other than 1 asks for
 abbrev pub statusOf : (kind : ℕ) → ℕ
 statusOf kind = getD (1 ∷ 2 ∷ 7 ∷ 8 ∷ 3 ∷ []) (kind - 2) 0
 

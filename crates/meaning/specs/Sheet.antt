@@ -1,4 +1,4 @@
--- Document 01, "The sheet": its head, its items and their forms; what it takes for a sheet to be written, and the judgement that
+-- The book, "The sheet": its head, its items and their forms; what it takes for a sheet to be written, and the judgement that
 -- decides it with the refusals 20 to 24. Assumes nothing.
 use mathlib.Core.Path.{_≡_}
 use Prim.Native.Nat.{ℕ, zero, suc, _+_, _*_, _-_, _/_, _%_}
@@ -17,7 +17,7 @@ use Rattle.meaning.specs.Shapes.{blocks, free, shapeOf, meets}
 abbrev pub typeOf : ℕ → ℕ
 typeOf n = cond (isPlain n) n 26
 
--- "sub-attribute number (0 unless vendor 10415)"
+-- "sub-attribute number", 0 for a plain one
 abbrev pub subOf : ℕ → ℕ
 subOf n = cond (isPlain n) 0 (n - 256)
 
@@ -66,11 +66,11 @@ valueOf ver (exactly n) c s = s
 valueOf ver blocks c s = s
 valueOf ver free c s = s
 
--- "Forms 2 to 7 are used exactly when the value meets its shape below"
+-- "used exactly when the value meets": a form from 2 to 7
 unfoldable pub decodes : Version → (number : ℕ) → List ℕ → Bool
 decodes ver n v = leb 2 (formOf (shapeOf n)) && meets ver (shapeOf n) v
 
--- "otherwise form 0 (plain) or 1 (3GPP)"
+-- the form of a value: its number's, "otherwise form 0" or 1
 unfoldable pub form : Version → (number : ℕ) → List ℕ → ℕ
 form ver n v = cond (decodes ver n v) (formOf (shapeOf n)) (cond (isPlain n) 0 1)
 
@@ -78,15 +78,15 @@ form ver n v = cond (decodes ver n v) (formOf (shapeOf n)) (cond (isPlain n) 0 1
 unfoldable pub stored : Version → (number : ℕ) → List ℕ → List ℕ
 stored ver n v = cond (decodes ver n v) (storedOf ver (shapeOf n) v) v
 
--- "Stored octets are count, except form 4", where "count is the digits"
+-- the count: what is stored, and in form 4 "count is the digits"
 unfoldable pub count : Version → (number : ℕ) → List ℕ → ℕ
 count ver n v = cond (eqb (form ver n v) 4) (length v) (length (stored ver n v))
 
--- "type, sub-attribute number, form, count, stored octets"
+-- "type, sub-attribute number, form, count", and what is stored
 unfoldable pub item : Version → (number : ℕ) → List ℕ → List ℕ
 item ver n v = typeOf n ∷ subOf n ∷ form ver n v ∷ count ver n v ∷ stored ver n v
 
--- "one item per attribute, in area order"
+-- "one item per attribute"
 unfoldable pub itemsOf : Version → List Attribute → List ℕ
 itemsOf ver [] = []
 itemsOf ver (a ∷ l) = item ver (a .number) (a .value) ++ itemsOf ver l
@@ -95,7 +95,7 @@ itemsOf ver (a ∷ l) = item ver (a .number) (a .value) ++ itemsOf ver l
 abbrev pub mark : List ℕ
 mark = 0x47 ∷ 0x49 ∷ 0x52 ∷ []
 
--- "Nine octets: mark GIR, version 1 as 16 bits, kind, flags, number of items as 16 bits"
+-- "Nine octets": mark, version, kind, flags, number of items
 unfoldable pub sheetHead : Version → (kind flags count : ℕ) → List ℕ
 sheetHead ver kind flags n = mark ++ octetsOf 2 (termsOf ver .number) ++ kind ∷ flags ∷ octetsOf 2 n
 
@@ -107,7 +107,7 @@ sheetWith ver kind flags l = sheetHead ver kind flags (length l) ++ itemsOf ver 
 unfoldable pub sheetAs : Version → (kind flags : ℕ) → List ℕ → List ℕ
 sheetAs ver kind flags area = sheetWith ver kind flags (attributes (walk area))
 
--- "attribute area, kind and flags give a sheet"
+-- the sheet that reading makes
 abbrev pub sheetOf : (kind flags : ℕ) → List ℕ → List ℕ
 sheetOf = sheetAs current
 
@@ -118,7 +118,7 @@ pub record Readable (kind flags : ℕ) (area : List ℕ) : Type 0 where
   pub octets : Octets area
   pub accepted : areaRefusal kind flags area ≡ none
 
--- Demand 2: "a sheet is written exactly when some readable area has it", in a version
+-- Demand 2: "some readable area has it", in a version
 pub record Writable (ver : Version) (sheet : List ℕ) : Type 0 where
   pub kind : ℕ
   pub flags : ℕ
@@ -136,7 +136,7 @@ numberIn t s f = cond (eqb t 26 && not (eqb f 0)) (gpp s) t
 abbrev pub valueIn : Version → (number form count : ℕ) → List ℕ → List ℕ
 valueIn ver n f c s = cond (leb f 1) s (valueOf ver (shapeOf n) c s)
 
--- "Stored octets are count, except form 4: half the count, rounded up", also in an unknown form
+-- the octets that an item announces: its count, also in an unknown form; of digits "half the count, rounded up"
 abbrev pub storedLength : Version → (form count : ℕ) → ℕ
 storedLength ver f c = cond (eqb (formNamed ver f) 4) (packedLength c) c
 
@@ -146,7 +146,7 @@ pub data Entered : Type 0 where
   holds : (number : ℕ) (value : List ℕ) (size : ℕ) → Entered
   refused : (number : ℕ) → Entered
 
--- 23: "an item that no readable attribute gives": the item of the number and value it stands for is not this one
+-- 23: "no readable attribute gives": the item of the number and value it stands for is not this one
 unfoldable pub judgedItem : Version → (number : ℕ) (value item : List ℕ) → Entered
 judgedItem ver n v it = cond (carries n v && same (item ver n v) it) (holds n v (length it)) (refused 23)
 
@@ -160,7 +160,7 @@ wholeItem ver l =
     let size = 4 + storedLength ver f c in
     judgedItem ver n (valueIn ver n f c (drop 4 (take size l))) (take size l)
 
--- 22: "an item's head or stored octets pass the end", before 23
+-- 22: "head or stored octets pass", before 23
 unfoldable pub entered : Version → List ℕ → Entered
 entered ver l =
     cond (ltb (length l) 4) (refused 22)
@@ -171,7 +171,7 @@ abbrev pub onItem : (p : ℕ) → (ℕ → Walk) → Entered → Walk
 onItem p rest (holds n v size) = next (record { place = p; number = n; value = v }) (rest size)
 onItem p rest (refused k) = broken k p
 
--- the walk over so many items from place p on; 22: "or octets remain after the last item"
+-- the walk over so many items from place p on; 22: "octets remain", behind the last
 unfoldable pub items : Version → (count p : ℕ) → List ℕ → Walk
 items ver zero p [] = end
 items ver zero p (x ∷ l) = broken 22 p
@@ -197,7 +197,7 @@ itemsIn sheet = items (versionIn sheet) (numberOf (take 2 (drop 7 sheet))) 9 (dr
 unfoldable pub areaIn : List ℕ → List ℕ
 areaIn sheet = areaOf (attributes (itemsIn sheet))
 
--- 20: "sheet under 9 octets, wrong mark or version"
+-- 20: too short, or "wrong mark or version"
 unfoldable pub marked : List ℕ → Bool
 marked sheet = leb 9 (length sheet) && same (take 5 sheet) (mark ++ octetsOf 2 (termsOf (versionIn sheet) .number))
 

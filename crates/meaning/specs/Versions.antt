@@ -1,4 +1,4 @@
--- Document 01, "The sheet", "version 1": what a sheet's version says. A request that adds a version adds its case here; the older ones stay
+-- The book, "The sheet": what a sheet's version says. A request that adds a version adds its case here; the older ones stay
 -- as they stood. Assumes nothing.
 use Prim.Native.Nat.{ℕ, _-_}
 use mathlib.Core.Bool.{Bool, false, cond, _&&_, _||_}

@@ -1,4 +1,4 @@
--- Laws of digit strings: when a text is one, and that its packed digits are what document 01 stores. Assumes nothing.
+-- Laws of digit strings: when a text is one, and that its packed digits are what a sheet stores. Assumes nothing.
 use mathlib.Core.Path.{_≡_, ap, _∙_}
 use mathlib.Core.Bool.{true, false, and-false}
 use mathlib.Core.List.{List, [], _∷_}
@@ -65,8 +65,7 @@ pub eight-placed : (d : Digits) → length (d .octets) ≡ 15 → pack (heldOf 1
 unfolding eightOf
 eight-placed d e = ap (λ (l : List ℕ). pack (heldOf 15 l)) (all-placed (d .octets) 15 e)
 
--- Of at most fifteen digits the octets are those that document 01 stores: "two to an octet, first in the high half; an odd last
--- low half is 15".
+-- Of at most fifteen digits the octets are those that a sheet stores: "two to an octet", and 15 beside an odd last one.
 pub packed-digits : (l : List ℕ) → length l ≤ 15 → Halves l → packedOf (digitsOf l) ≡ pack l
 unfolding packedOf eightOf digitsOf
 packed-digits l few h =

@@ -282,7 +282,7 @@ drop-replicate zero n x = let e : n ≡ n - 0 = omega arith in ap (λ (m : ℕ).
 drop-replicate (suc k) zero x = let e : 0 ≡ 0 - suc k = omega arith in ap (λ (m : ℕ). replicate m x) e
 drop-replicate (suc k) (suc n) x = let e : n - k ≡ suc n - suc k = omega arith in drop-replicate k n x ∙ ap (λ (m : ℕ). replicate m x) e
 
--- an odd last low half is 15
+-- beside an odd last half stands 15
 pack-odd : (l : List ℕ) → length l % 2 ≡ 1 → pack l ≡ pack (l ++ (15 ∷ []))
 unfolding pack
 pack-odd [] e = absurd (omega arith)

@@ -12,7 +12,7 @@ use Rattle.meaning.specs.Answers.{over}
 use Rattle.octets.specs.DigitStrings.{halves, padded, heldOf}
 use Rattle.octets.proofs.Overs.{over-length}
 
--- The octet at a place is the pair of halves from twice the place on; "an odd last low half is 15".
+-- The octet at a place is the pair of halves from twice the place on; beside an odd last one stands 15.
 pair-at : (l : List ℕ) (i : ℕ) → i < packedLength (length l) → getD (pack l) i 0 ≡ getD l (2 * i) 15 * 16 + getD l (2 * i + 1) 15
 unfolding pack
 pair-at [] i h = absurd (omega arith)
@@ -75,7 +75,7 @@ values-modulo (x ∷ l) = ap (λ (m : List ℕ). (digitValue x % 16) ∷ m) (val
 halves-values : (l : List ℕ) → T (all isHex l) → halves l ≡ values l
 halves-values l t = values-modulo l ∙ halves-modulo (values l) (values-halves l t)
 
--- So the packed halves of such a text are what document 01 stores for it.
+-- So the packed halves of such a text are what a sheet stores for it.
 pub halves-as-stored : (l : List ℕ) → T (all isHex l) → pack (halves l) ≡ pack (values l)
 halves-as-stored l t = ap pack (halves-values l t)
 
@@ -112,7 +112,7 @@ padded-halves [] n h k = fifteens n
 padded-halves (x ∷ l) zero h k = absurd (omega arith)
 padded-halves (x ∷ l) (suc n) h k = (k .0, padded-halves l n (omega arith) (k .1))
 
--- The octets that they are packed in begin with those of the halves: "an odd last low half is 15".
+-- The octets that they are packed in begin with those of the halves: beside an odd last one stands 15.
 pub padded-front : (l : List ℕ) (n : ℕ) → length l ≤ n → take (packedLength (length l)) (pack (padded n 15 l)) ≡ pack l
 unfolding padded over pack
 padded-front [] n h = refl

@@ -1,4 +1,4 @@
--- "A digit string is at most fifteen digits together with their count": read from a text, and packed two to an octet.
+-- A digit string, "fifteen digits together with their count" at most: read from a text, and packed two to an octet.
 -- Assumes nothing.
 use Prim.Native.Nat.{ℕ, zero, suc, _+_, _%_, min}
 use mathlib.Core.Bool.{Bool, cond, _&&_}

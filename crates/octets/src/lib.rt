@@ -1,4 +1,4 @@
-// Octets, as document 01 takes them for granted: parts of a slice, numbers with the high octet first, octets laid over a
+// Octets, as everything else takes them for granted: parts of a slice, numbers with the high octet first, octets laid over a
 // buffer, digit strings, and digits two to an octet. Each public function takes any arguments.
 ghost use mathlib.Core.Path.{_≡_};
 ghost use Prim.Native.Nat.{_+_, _*_, _/_, _%_, _^_, _<_, _≤_, min};
@@ -12,7 +12,7 @@ ghost use Rattle.meaning.specs.Answers.{over};
 ghost use Rattle.octets.specs.Parts.{partOf, Numbered, Overlaid, laidAt, Laid};
 ghost use Rattle.octets.specs.DigitStrings.{halves, digitsOf, gatheredOf, gotOf, eightOf, turnedOf, belowTen};
 
-// "at most fifteen digits together with their count": the digits' values, with 15s behind them.
+// "fifteen digits together with their count" at most: the digits' values, with 15s behind them.
 pub struct Digits {
     pub octets: [u8; 15],
     pub len: usize,
@@ -679,8 +679,8 @@ fn pack_eight(buf: &mut [u8], text: &[u8], at: usize)
     lay_at(buf, at, &eight);
 }
 
-// Writes what is left of the packed halves of a text from a place on, where the octets before it are written; "an odd last
-// low half is 15".
+// Writes what is left of the packed halves of a text from a place on, where the octets before it are written; beside
+// an odd last half stands 15.
 fn pack_rest(buf: &mut [u8], text: &[u8], at: usize)
     requires { ⌜ Overlaid (pack (halves (now text))) (now buf) (now buf) at × (at ≤ length (now text) / 2) ⌝ }
     ensures { λ _. ⌜ now (buf .exit) ≡ over (pack (halves (now (text .entry)))) (now (buf .entry)) ⌝ }

@@ -1,4 +1,4 @@
--- Document 01, "a table of 1,536 entries, one for each kind and number": the row of a kind, and the test over the whole table.
+-- The presence table, "a table of 1,536 entries": the row of a kind, and the test over the whole table.
 -- Assumes nothing.
 use Prim.Native.Nat.{ℕ, zero, suc}
 use mathlib.Core.Bool.{Bool, true, false, cond, _&&_}

@@ -1,4 +1,4 @@
-// The presence table of document 01. A kind's row takes any number for the kind.
+// The presence table. A kind's row takes any number for the kind.
 ghost use mathlib.Core.Path.{_≡_};
 ghost use Prim.Native.Nat.{ℕ, _<_};
 ghost use mathlib.Core.List.{[]};
@@ -14,8 +14,8 @@ fn agreed(table: &[[u8; 256]; 6])
     ensures { λ _. ⌜ ((row : ℕ) → row < 6 → getD (now (table .entry)) row [] ≡ rowBy (byKind row)) ⌝ }
 {}
 
-// "a table of 1,536 entries, one for each kind and number": the row of a kind, with the code of each plain number; zeros for what is
-// no kind. A reading copies, so the row is read once a check.
+// "a table of 1,536 entries": the row of a kind, with the code of each plain number; zeros for what is no kind.
+// A reading copies, so the row is read once a check.
 pub fn row_of(kind: u32) -> [u8; 256]
     ensures { λ r. ⌜ r ≡ rowOf kind ⌝ }
 {

@@ -7,7 +7,7 @@ use Rattle.lines.specs.Lines.{decimalIn, decimal, entryDigits, entryWith, entri
 use Rattle.printing.specs.Printed.{refusalTold, shownAs, listLine, readShown, checkShown}
 use Rattle.printing.specs.Printed.{writeShown, recordLine, checkPrinted, readPrinted, writePrinted}
 
--- "For P3 below it is given 03 00 and then A, and prints the four entries, one a line, and nothing else"
+-- What `gir_check` prints for P3: its four lines.
 pub prints-p3 :
     checkPrinted (3 ∷ 0 ∷ areaA) 21 6126
     ≡ 48 ∷ 49 ∷ 51 ∷ 54 ∷ 48 ∷ 56 ∷ 48 ∷ 48 ∷ 10

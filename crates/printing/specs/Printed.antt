@@ -1,4 +1,4 @@
--- What the programs print, of what they were given: document 01's paragraph on its programs, and the line of each record of a batch.
+-- What the programs print, of what they were given (the book, "What the programs take and print"), and the line of each record of a batch.
 -- A program that is given more than decides the answer keeps a start of it, and knows how many octets there were. Assumes nothing.
 use Prim.Native.Nat.{ℕ, _*_}
 use mathlib.Core.Bool.{Bool, cond, _||_}
@@ -14,7 +14,7 @@ use Rattle.writing.specs.Starts.{startRefusal}
 
 -- ---- What was given
 
--- "a kind octet, a flags octet, then the area"
+-- "a kind octet", then the flags and the area
 abbrev pub kindGiven : List ℕ → ℕ
 kindGiven l = getD l 0 0
 
@@ -45,7 +45,7 @@ shortLine = 115 ∷ 104 ∷ 111 ∷ 114 ∷ 116 ∷ lineFeed ∷ []
 unfoldable pub refusalTold : (all number second : ℕ) → List ℕ
 refusalTold all n s = refusalLine n (secondTold n s all)
 
--- what was asked for, as it is shown; "or one line of "refused", the number and the second number"
+-- what was asked for, as it is shown, or the line of a refusal
 unfoldable pub shownAs : {A : Type 0} (show : A → List ℕ) (all : ℕ) → Answer A → List ℕ
 shownAs show all (given a) = show a
 shownAs show all (refused n s) = refusalTold all n s
@@ -54,7 +54,7 @@ shownAs show all (refused n s) = refusalTold all n s
 unfoldable pub hexLine : List ℕ → List ℕ
 hexLine s = text (unpack (2 * length s) s) ++ (lineFeed ∷ [])
 
--- "each entry as eight upper-case hexadecimal digits on a line": "An empty list prints nothing"
+-- a line for each entry; "An empty list prints nothing"
 abbrev pub listLines : List ℕ → List ℕ
 listLines = entriesWith lineFeed
 

@@ -1,4 +1,4 @@
--- Document 01, "The sheet": the octets of an item, of the items and of the sheet's head, as the writers lay them. Assumes nothing.
+-- The book, "The sheet": the octets of an item, of the items and of the sheet's head, as the writers lay them. Assumes nothing.
 use Prim.Native.Nat.{ℕ, _+_, _*_, _≤_}
 use mathlib.Core.Path.{_≡_}
 use mathlib.Core.List.{List, [], _∷_, _++_}
@@ -17,7 +17,7 @@ use Rattle.shape.specs.Items.{storedIn}
 use Rattle.reading.specs.declared.Tally.{Tally}
 use Rattle.reading.specs.declared.Tally.the-variants.{Whole, Broken}
 
--- "A sheet is never longer than 9 + 2 x area length": the octets that the items of an area can have
+-- "never longer than 9 + 2" times the area's length: the octets that the items of an area can have
 abbrev pub longestItems : ℕ
 longestItems = 2 * 4076
 

@@ -21,7 +21,7 @@ ghost use Rattle.shape.specs.Items.{storedPart, storedIn};
 ghost use Rattle.reading.specs.Items.{longestItems, namesOf, itemIn, Within, LaidCounted, PassSays, Concluding};
 ghost use Rattle.reading.specs.Answers.{readingOf, Read};
 
-// "A sheet is never longer than 9 + 2 x area length": room for the items of any area, of up to 4,076 octets, and for sixteen octets more.
+// "never longer than 9 + 2" times the area's length: room for the items of any area, of up to 4,076 octets, and for sixteen octets more.
 const ROOM: usize = 8168;
 
 // Most areas are short, and a short buffer takes less time to clear: areas up to so many octets have one, with the same room.
@@ -156,7 +156,7 @@ fn put_item(buf: &mut [u8], at: usize, area: &[u8], item: Item) -> usize
 }
 
 // Lays the items of an area at the buffer's start, one behind the other, and counts them; or gives the first refusal of the framing.
-// "A sheet is never longer than 9 + 2 x area length": the buffer has room for the items of any area so long, and for sixteen octets more.
+// "never longer than 9 + 2" times the area's length: the buffer has room for the items of any area so long, and for sixteen octets more.
 fn put_items(area: &[u8], buf: &mut [u8]) -> Tally
     requires { ⌜ 2 * length (now area) + 16 ≤ length (now buf) ⌝ }
     ensures { λ r. ⌜ PassSays (now (area .entry)) r (now (buf .exit)) ⌝ }
@@ -189,7 +189,7 @@ fn put_items(area: &[u8], buf: &mut [u8]) -> Tally
     }
 }
 
-// "Nine octets: mark GIR (47 49 52), version 1 as 16 bits, kind, flags, number of items as 16 bits".
+// "Nine octets": mark, version, kind, flags and the number of items.
 fn sheet_head(kind: u32, flags: u32, count: usize) -> [u8; 9]
     requires { ⌜ (kind < 256) × (flags < 256) × (count < 65536) ⌝ }
     ensures { λ r. ⌜ r ≡ sheetHead current kind flags count ⌝ }
@@ -251,7 +251,7 @@ fn conclude(
     }
 }
 
-// "Read: attribute area, kind and flags give a sheet", at the buffer's start; a refusal leaves the buffer as it was.
+// Read: the sheet of an area, at the buffer's start; a refusal leaves the buffer as it was.
 pub fn read(area: &[u8], kind: u32, flags: u32, sheet: &mut [u8]) -> Reading
     ensures { λ r. ⌜ Read kind flags (now (area .entry)) (now (sheet .entry)) r (now (sheet .exit)) ⌝ }
 {

@@ -1,4 +1,4 @@
--- The numbers that the lines of document 01 name have the shape of their line, and any other number has none. Assumes nothing.
+-- The numbers that the lines of the definitions name have the shape of their line, and any other number has none. Assumes nothing.
 use mathlib.Core.Path.{_≡_, refl, sym, ap, subst, _∙_}
 use mathlib.Core.Logic.{_⊎_, inl, inr, ⊎-elim}
 use mathlib.Core.Bool.{Bool, true, false, cond, not, _||_, and-false}

@@ -110,7 +110,7 @@ fifteen (exactly n) = true
 fifteen blocks = true
 fifteen free = true
 
--- "A digit string is at most fifteen digits": so it is for every number.
+-- "at most fifteen digits", whatever the number.
 pub at-most-fifteen : (n : ℕ) → T (fifteen (shapeOf n))
 at-most-fifteen = every-shape fifteen tt tt
 

@@ -1,4 +1,4 @@
--- An item of the code is the item that document 01 writes: what it stores, and its whole octets. Assumes nothing.
+-- An item of the code is the item that the definitions write: what it stores, and its whole octets. Assumes nothing.
 use mathlib.Core.Path.{_≡_, refl, sym, ap, ap₂, _∙_}
 use mathlib.Core.List.{List, [], _∷_}
 use Prim.Native.Nat.{ℕ, zero, suc, _+_, _*_, _%_, _<_}

@@ -1,4 +1,4 @@
--- Codes for the shapes of document 01: the tens of a code are the form of the shape, 0 where it has none of
+-- Codes for the shapes: the tens of a code are the form of the shape, 0 where it has none of
 -- its own, and the ones tell the shapes of one form apart. Assumes nothing.
 use Prim.Native.Nat.{ℕ}
 use mathlib.Core.Bool.{cond}

@@ -1,4 +1,4 @@
--- Document 01, "The sheet": the item of a carried number whose value is a part of an area, and the octets that it stores.
+-- The book, "The sheet": the item of a carried number whose value is a part of an area, and the octets that it stores.
 -- Assumes nothing.
 use Prim.Native.Nat.{ℕ, _+_, _*_, _%_}
 use mathlib.Core.Bool.{cond}

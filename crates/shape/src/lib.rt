@@ -70,8 +70,7 @@ pub const ANY_OCTET: u8 = 71;
 
 pub const DECIMAL_DIGIT: u8 = 72;
 
-// "An item's value is either a number, an address, digits or plain octets": plain octets as a part of the area; the digits stand
-// beside it.
+// An item's value, "either a number, an address, digits" or octets as they stand, a part of the area; the digits stand beside it.
 pub enum Value {
     Number(u32),
     Address(u32),
@@ -209,7 +208,7 @@ fn meets_qos(value: &[u8]) -> bool
     meets_release(value, b'9', 22)
 }
 
-// Whether a value is 16 to 128 octets and a multiple of 16.
+// Whether a value is one to eight blocks of sixteen octets.
 fn meets_blocks(value: &[u8]) -> bool
     ensures { λ r. ⌜ r ≡ meant.meets current meant.blocks (now (value .entry)) ⌝ }
 {
@@ -266,7 +265,7 @@ pub fn meets(number: u16, value: &[u8]) -> bool
     }
 }
 
-// "otherwise form 0 (plain) or 1 (3GPP)"
+// The form of a value that stands as it is.
 fn plain_form(number: u16) -> u8
     ensures { λ r. ⌜ r ≡ cond (isPlain number) 0 1 ⌝ }
 {
@@ -427,7 +426,7 @@ pub fn item_of(v: &[u8], number: u16, value: area::Part) -> Item
     }
 }
 
-// "Stored octets are count, except form 4: half the count, rounded up".
+// The octets that an item stores: its count; of digits "half the count, rounded up".
 pub fn stored_len(form: u8, count: usize) -> usize
     ensures { λ r. ⌜ r ≡ storedLength current form count ⌝ }
 {

@@ -1,4 +1,4 @@
--- What writing answers: each refusal exactly when its line is the first that applies, or the area. Assumes nothing.
+-- What writing answers: the first refusal that applies, or the area. Assumes nothing.
 use mathlib.Core.Path.{_≡_, refl, sym, _∙_}
 use mathlib.Core.Bool.{Bool, true, false, not, _&&_}
 use mathlib.Core.List.{List}

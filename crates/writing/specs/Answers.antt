@@ -1,4 +1,4 @@
--- What the answers of this crate stand for, in the numbers and values of document 01. Assumes nothing.
+-- What the answers of this crate stand for, in the numbers and values of the book. Assumes nothing.
 use Prim.Native.Nat.{ℕ, _+_, _≤_}
 use mathlib.Core.Path.{_≡_}
 use mathlib.Core.List.{List}

@@ -20,7 +20,7 @@ ghost use Rattle.meaning.specs.Refusals as book;
 ghost use Rattle.writing.specs.Starts.{filled, startBy, startRefusal};
 ghost use Rattle.writing.specs.Answers.{startSaid, frontOf, brokenAs, Transcribed, endedAs, judgementOf, sizeOf, HandedOver, Wrote};
 
-// "24: area to be written over 4,076 octets".
+// 24: the longest area that is written.
 const LONGEST: usize = 4076;
 
 // Room for one attribute wherever it begins: a head of 8 octets and a value of at most 255, as an item's count can announce.
@@ -376,7 +376,7 @@ fn ended(sheet: &[u8], pass: Pass) -> Judgement
     }
 }
 
-// "For write: 20, 21, items from the left": whether it is the items' turn.
+// 20 and 21: whether it is the items' turn.
 fn front_of(sheet: &[u8]) -> Front
     ensures { λ r. ⌜ r ≡ frontOf (now (sheet .entry)) ⌝ }
 {
@@ -496,7 +496,7 @@ fn hand_over(said: Judgement, made: &[u8], area: &mut [u8]) -> Writing
     }
 }
 
-// "Write: a sheet gives back area, kind and flags", the area at the buffer's start; a refusal leaves the buffer as it was. An area that the
+// Write: what a sheet was read from, the area at the buffer's start; a refusal leaves the buffer as it was. An area that the
 // short buffer has no room for is made again.
 pub fn write(sheet: &[u8], area: &mut [u8]) -> Writing
     ensures { λ r. ⌜ Wrote (now (sheet .entry)) (now (area .entry)) r (now (area .exit)) ⌝ }

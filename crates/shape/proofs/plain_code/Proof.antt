@@ -1,4 +1,4 @@
--- The code of each number that document 01 names, and 0 for any other. Assumes nothing.
+-- The code of each number that the book names, and 0 for any other. Assumes nothing.
 use Rattle.meaning.specs.Shapes.{plainShape}
 use Rattle.shape.specs.Codes.{codeOf}
 use Rattle.shape.proofs.Coded.{plain-other}
