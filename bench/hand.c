@@ -1,4 +1,4 @@
-/* Read, check and write as document 01 sets them out, written by hand for speed. Each job is
+/* Read, check and write as docs/BOOK.md sets them out, written by hand for speed. Each job is
  * one pass over its input: the answer is made in a buffer on the stack, which is great enough
  * for any, and goes to the caller's buffer only once nothing can be refused any more. */
 #include "hand.h"

@@ -1,4 +1,4 @@
-/* The three jobs of document 01, written by hand in C: what the proved library is measured
+/* The desk's three jobs, written by hand in C: what the proved library is measured
  * against. The entries are those of include/gir.h under other names. */
 #ifndef HAND_H
 #define HAND_H

@@ -1,8 +1,9 @@
 /* The desk's three jobs for callers in C: read an attribute area into a sheet, check it, and
- * write a sheet back. What each does is set out in docs/document-01.md.
+ * write a sheet back. docs/BOOK.md says what each does, what every refusal means, and has the
+ * attributes by number and name.
  *
  * The library behind these entries is proved: every input is answered, none stops the
- * program, and each answer is the one that document 01 defines.
+ * program, and each answer is the one that the book gives.
  *
  * Buffers. The caller owns all of them. Nothing is kept after an entry returns, nothing is
  * allocated, and there is no state between calls, so calls from several threads do not
@@ -45,25 +46,25 @@ extern "C" {
 #define GIR_CHAP_USED 2
 #define GIR_CLASS_RECEIVED 4
 
-/* The refusals of document 01, and the second number that goes with each. Places are offsets
- * from 0: in the area for 4 to 8, in the sheet for 22 and 23. */
-#define GIR_BAD_KIND 1          /* kind not 1 to 6: 0 */
-#define GIR_BAD_FLAGS 2         /* flags not 0, 1, 2, 4, 5 or 6: 0 */
-#define GIR_AREA_TOO_LONG 3     /* area over 4,076 octets: its length */
-#define GIR_LONE_OCTET 4        /* one octet left where an attribute should start: its place */
-#define GIR_LENGTH_BELOW_2 5    /* an attribute's length octet: the attribute's place */
-#define GIR_PASSES_THE_END 6    /* a length that passes the area's end: the attribute's place */
-#define GIR_SHORT_VENDOR 7      /* type 26 with length below 7: the attribute's place */
-#define GIR_BROKEN_SUB 8        /* vendor 10415, layout broken: the attribute's place */
-#define GIR_SHEET_ROOM_SMALL 9  /* sheet longer than its buffer: octets needed */
-#define GIR_LIST_ROOM_SMALL 10  /* list longer than its buffer: entries needed */
-#define GIR_BAD_HEAD 20         /* sheet under 9 octets, wrong mark or version: 0 */
-#define GIR_BAD_SHEET_KIND 21   /* kind or flags in the sheet not allowed: 0 */
-#define GIR_SHEET_END 22        /* an item passes the sheet's end, or octets remain: the item's
-                                   place, or the first remaining octet's */
-#define GIR_BAD_ITEM 23         /* an item that no readable attribute gives: its place */
-#define GIR_WRITTEN_TOO_LONG 24 /* area to be written over 4,076 octets: its length */
-#define GIR_AREA_ROOM_SMALL 25  /* area longer than its buffer: octets needed */
+/* The refusals, when each is given, and its second number behind the colon. Places are offsets
+ * from 0: in the area for 4 to 8, in the sheet for 22 and 23. The book has them at length. */
+#define GIR_BAD_KIND 1          /* a kind that there is not: 0 */
+#define GIR_BAD_FLAGS 2         /* flags other than 0, 1, 2, 4, 5 and 6: 0 */
+#define GIR_AREA_TOO_LONG 3     /* more than GIR_LONGEST_AREA octets: the area's length */
+#define GIR_LONE_OCTET 4        /* no room for a length octet: the attribute's place */
+#define GIR_LENGTH_BELOW_2 5    /* an attribute's length octet is 0 or 1: its place */
+#define GIR_PASSES_THE_END 6    /* an attribute goes on behind the area: its place */
+#define GIR_SHORT_VENDOR 7      /* type 26 has no octet behind the vendor id: its place */
+#define GIR_BROKEN_SUB 8        /* no sub-attribute fills a 3GPP attribute: its place */
+#define GIR_SHEET_ROOM_SMALL 9  /* the buffer cannot hold the sheet: octets needed */
+#define GIR_LIST_ROOM_SMALL 10  /* the buffer cannot hold the list: entries needed */
+#define GIR_BAD_HEAD 20         /* too short for a sheet, or another mark or version: 0 */
+#define GIR_BAD_SHEET_KIND 21   /* the sheet has a kind or flags that there are not: 0 */
+#define GIR_SHEET_END 22        /* an item goes on behind the sheet: its place; or octets are
+                                   left over behind the last item: the first one's place */
+#define GIR_BAD_ITEM 23         /* reading cannot have made the item: its place */
+#define GIR_WRITTEN_TOO_LONG 24 /* an area of more than GIR_LONGEST_AREA octets: its length */
+#define GIR_AREA_ROOM_SMALL 25  /* the buffer cannot hold the area: octets needed */
 
 /* What an entry answers. */
 typedef struct gir_answer {
@@ -76,15 +77,15 @@ typedef struct gir_answer {
 } gir_answer;
 
 /* Reads the area into the sheet, a buffer of `room` octets; `length` is the sheet's. Refuses
- * by 1, 2, 3, then the first attribute that fails by 4 to 8, then 9. A room of
+ * by 1, by 2, by 3, then attribute by attribute by 4 to 8, then by 9. A room of
  * GIR_SHEET_ROOM(area_len) is always enough. */
 gir_answer gir_read(const uint8_t *area, size_t area_len, uint32_t kind, uint32_t flags,
                     uint8_t *sheet, size_t room);
 
 /* Checks the area; its breaches go to the list, a buffer of `room` entries, in rising order,
- * and `length` is their number. An entry is place x 1,048,576 + rule x 65,536 + type x 256 +
- * sub-attribute number, in the machine's own 32-bit numbers. Refuses by 1, 2, 3, then the
- * first attribute that fails by 4 to 8, then 10. A room of GIR_LIST_ROOM is always enough. */
+ * and `length` is their number. An entry, in the machine's own 32-bit numbers, has the place in
+ * its highest 12 bits, then 4 of the rule, 8 of the type and 8 of the sub-attribute's number.
+ * Refuses as gir_read does, with 10 for 9. A room of GIR_LIST_ROOM is always enough. */
 gir_answer gir_check(const uint8_t *area, size_t area_len, uint32_t kind, uint32_t flags,
                      uint32_t *list, size_t room);
 

@@ -1,9 +1,9 @@
 //! The desk's three jobs for callers in Rust: read an attribute area into a sheet, check it, and
-//! write a sheet back. What each does is set out in docs/document-01.md.
+//! write a sheet back. docs/BOOK.md says what each does, and what every refusal and entry means.
 //!
 //! The library behind it, `target/staticlib/libdesk.a` (`rt staticlib desk`), is proved: every
-//! input is answered, none stops the program, and each answer is the one that document 01
-//! defines. What is not proved is that the declarations below agree with it; the test beside this
+//! input is answered, none stops the program, and each answer is the one that the book
+//! gives. What is not proved is that the declarations below agree with it; the test beside this
 //! file runs them. All of the crate's `unsafe` is here. The archive links into x86-64 programs:
 //!
 //! ```text
@@ -29,7 +29,7 @@ pub const fn sheet_room(octets: usize) -> usize {
     }
 }
 
-/// A refusal of the book of document 01: its number, and the second number that goes with it.
+/// A refusal of the book: its number, and the second number that goes with it.
 #[derive(Clone, Copy, Debug, PartialEq, Eq)]
 pub struct Refusal {
     pub number: u32,
@@ -50,7 +50,7 @@ pub struct Breach {
 }
 
 impl Breach {
-    /// What an entry says: place x 1,048,576 + rule x 65,536 + type x 256 + sub-attribute number.
+    /// What an entry says: 12 bits of place, 4 of the rule, 8 of the type, 8 of the sub-attribute.
     pub const fn of(entry: u32) -> Breach {
         Breach {
             place: entry / 1_048_576,
@@ -78,8 +78,8 @@ pub struct Message {
     pub flags: u32,
 }
 
-/// Reads the area into the start of `sheet`, and gives that part. Refuses by 1, 2, 3, then the
-/// first attribute that fails by 4 to 8, then 9; then `sheet` is as it was. `sheet_room` says how
+/// Reads the area into the start of `sheet`, and gives that part. Refuses by 1, by 2, by 3, then
+/// attribute by attribute by 4 to 8, then by 9; then `sheet` is as it was. `sheet_room` says how
 /// much room is always enough.
 pub fn read<'a>(
     area: &[u8],
@@ -96,8 +96,7 @@ pub fn read<'a>(
 }
 
 /// Checks the area; its breaches go to the start of `list` in rising order, and that part is
-/// given. Refuses by 1, 2, 3, then the first attribute that fails by 4 to 8, then 10; then `list`
-/// is as it was. `LONGEST_LIST` entries are always room enough. `Breach::of` tells what an entry
+/// given. Refuses as `read` does, with 10 for 9; then `list` is as it was. `LONGEST_LIST` entries are always room enough. `Breach::of` tells what an entry
 /// says.
 pub fn check<'a>(
     area: &[u8],

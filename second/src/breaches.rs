@@ -1,7 +1,7 @@
 //! Breaches: the seven rules, each line of document 01 written out.
 //!
-//! The list is a set of entries. A rule broken by several clauses at one place
-//! for one number is therefore one breach, and the list comes out rising.
+//! The list is a set of entries: what two clauses of a rule say of one attribute is
+//! therefore one breach, and the list comes out rising.
 
 use crate::framing::Attribute;
 use crate::framing::Number::{self, Gpp, Plain};
@@ -41,8 +41,8 @@ pub fn breaches(case: &Case) -> BTreeSet<u32> {
     entries
 }
 
-/// Place x 1,048,576 + rule x 65,536 + type x 256 + sub-attribute number. A place
-/// is at most 4,076, so the entry never passes 32 bits.
+/// Place, rule, type and sub-attribute number as one number. A place is at most
+/// 4,076, so the entry never passes 32 bits.
 fn entry(place: usize, rule: u32, number: Number) -> u32 {
     let (attribute_type, sub) = number.type_and_sub();
     let name = u32::from(attribute_type) * 256 + u32::from(sub);
@@ -81,7 +81,7 @@ fn number_allowed(kind: u8, number: Number, value: u32) -> bool {
     }
 }
 
-/// Acct-Status-Type is 1, 2, 7, 8, 3 for kinds 2 to 6, and free in kind 1.
+/// Acct-Status-Type names the kind of an accounting message; kind 1 is free.
 fn status_allowed(kind: u8, value: u32) -> bool {
     match kind {
         2 => value == 1,
@@ -130,7 +130,7 @@ fn absent(case: &Case, number: Number) -> bool {
     !present(case, number)
 }
 
-/// Rule 5: kind 1, a plain 2 and a plain 3 both present; it names 3.
+/// Rule 5: both passwords in kind 1; it names 3.
 fn excluded(case: &Case) -> Vec<Number> {
     let both = present(case, Plain(2)) && present(case, Plain(3));
     if case.kind == ACCESS_REQUEST && both {

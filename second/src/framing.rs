@@ -84,7 +84,7 @@ fn attribute(octets: &[u8], place: usize) -> Result<Attribute<'_>, Refusal> {
     Ok(Attribute { place, number: Number::Gpp(string[0]), value: &string[2..] })
 }
 
-/// Number, length m, value, with 2 <= m <= 248, and m the whole string.
+/// The string is number, length m and value, of an m that is permitted and fills it.
 fn is_one_sub_attribute(string: &[u8]) -> bool {
     match string.get(1) {
         None => false,

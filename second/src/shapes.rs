@@ -10,7 +10,7 @@ pub enum Shape {
     AtLeast(usize),
     /// Form 0 with a length rule: exactly so many octets.
     Exactly(usize),
-    /// Form 0 with a length rule: 16 to 128 octets and a multiple of 16.
+    /// Form 0 with a length rule: one to eight blocks of 16 octets.
     HiddenPassword,
     /// Form 2: a number of four octets.
     FourOctetNumber,
@@ -22,11 +22,11 @@ pub enum Shape {
     HexadecimalText(usize),
     /// Form 6: "98-" and 6 hexadecimal digits, or "99-" and 22.
     QosProfile,
-    /// Form 7: one hexadecimal digit, stored 0 to 15.
+    /// Form 7: a hexadecimal digit, stored as its value.
     OneHexadecimalDigit,
     /// Form 7: any one octet as it stands.
     OneOctet,
-    /// Form 7: one decimal digit, stored 0 to 9.
+    /// Form 7: a decimal digit, stored as its value.
     OneDecimalDigit,
 }
 

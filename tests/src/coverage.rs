@@ -4,7 +4,7 @@
 //!
 //! Prints how often each refusal comes up in each job, then each breach by its rule and
 //! number: how often in each kind, and how often with the rarest flags of any kind in which
-//! it is possible. The status is 1 where a line of document 01 does not come up at all, or a
+//! it is possible. The status is 1 where a line of the book does not come up at all, or a
 //! breach that no line gives does.
 
 use std::collections::{BTreeMap, BTreeSet};

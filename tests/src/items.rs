@@ -1,4 +1,4 @@
-//! Items and sheets as they are laid out, right or wrong: nothing here keeps to document 01.
+//! Items and sheets as they are laid out, right or wrong: nothing here keeps to the book.
 
 /// Type, sub-attribute number, form, count, stored octets.
 #[derive(Clone)]
@@ -46,7 +46,7 @@ pub struct Sheet {
 }
 
 impl Sheet {
-    /// The sheet with the head that document 01 asks for, as far as 16 bits hold the items.
+    /// The sheet with the head that the book asks for, as far as 16 bits hold the items.
     pub fn new(kind: u8, flags: u8, items: Vec<Item>) -> Sheet {
         let mut sheet =
             Sheet { head: [b'G', b'I', b'R', 0, 1, kind, flags, 0, 0], items, after: vec![] };

@@ -1,4 +1,4 @@
-//! The lines of document 01 that a batch should reach: which refusals a job can give, and
+//! The lines of the book that a batch should reach: which refusals a job can give, and
 //! which breaches are possible in a kind with some flags.
 
 /// A breach without its place: rule, type, sub-attribute number.

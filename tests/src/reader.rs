@@ -1,4 +1,4 @@
-//! The items of an area, read plainly from document 01: a third reading of it, from which
+//! The items of an area, read plainly from the paper: a third reading of it, from which
 //! sheets are made up and the room that a sheet needs is reckoned.
 
 use crate::attributes::{THREE_GPP, THREE_GPP_LIMIT};
@@ -89,7 +89,7 @@ fn is_qos(text: &[u8]) -> bool {
     text.len() == 3 + count && is_hexadecimal(&text[3..])
 }
 
-/// Digits two to an octet, the first in the high half; an odd last low half is 15.
+/// Digits two to an octet, high half first, and 15 beside an odd last one.
 fn packed(digits: &[u8]) -> Vec<u8> {
     let half = |digit: u8| digit - b'0';
     let low = |pair: &[u8]| pair.get(1).map_or(15, |&digit| half(digit));

@@ -11,7 +11,7 @@ pub enum Number {
     OtherVendor,
 }
 
-/// The plain numbers that document 01 names.
+/// The plain numbers that the book names.
 const PLAIN: [u8; 30] = [
     1, 2, 3, 4, 6, 7, 8, 9, 18, 24, 25, 30, 31, 32, 40, 41, 42, 43, 44, 45, 46, 47, 48, 49, 60, 61,
     31, 44, 31, 44,
@@ -53,7 +53,7 @@ fn shape(number: Number) -> Shape {
     }
 }
 
-/// A number that document 01 names, or now and then any other.
+/// A number that the book names, or now and then any other.
 pub fn any_number(random: &mut Random) -> Number {
     let number = match random.between(1, 20) {
         1..=8 => Number::Plain(random.pick(&PLAIN)),
@@ -69,7 +69,7 @@ pub fn any_number(random: &mut Random) -> Number {
     }
 }
 
-/// One of the numbers that document 01 names, each as often as another.
+/// One of the numbers that the book names, each as often as another.
 pub fn named_number(random: &mut Random) -> Number {
     let place = random.between(0, 38);
     match PLAIN[..26].get(place) {

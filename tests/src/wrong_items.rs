@@ -1,4 +1,4 @@
-//! Items that no readable attribute gives, each by one line of document 01; a few come out
+//! Items that no readable attribute gives, each by one line of the book; a few come out
 //! right, as the neighbours of the wrong ones.
 
 use crate::attributes::{PLAIN_LIMIT, THREE_GPP, THREE_GPP_LIMIT};
@@ -27,7 +27,7 @@ pub fn wrong_item(random: &mut Random) -> Item {
     }
 }
 
-/// Any number that document 01 names, with a value that meets its shape.
+/// Any number that the book names, with a value that meets its shape.
 fn shaped(random: &mut Random) -> (Number, Vec<u8>) {
     let number = named_number(random);
     let value = meeting_value(random, number);

@@ -535,7 +535,7 @@ fn withdraw(temp: &[u8], out: &[u8], work: Work) -> Done {
         complain(
             b"withdraw",
             out,
-            b"it stays, since another sheet is kept already",
+            b"it stays, since the name to keep it under is not free",
         );
         return Done {
             answer: Answer::Badly,
