@@ -17,7 +17,7 @@
 /// The longest area that is read, checked or written.
 pub const LONGEST_AREA: usize = 4076;
 
-/// The longest list of breaches.
+/// No list of breaches is longer.
 pub const LONGEST_LIST: usize = 6126;
 
 /// Room that is enough for the sheet of an area of `octets` octets.
