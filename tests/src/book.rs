@@ -1,0 +1,242 @@
+//! Holds the tables of docs/BOOK.md against the answers of the second program.
+//!
+//!     book ask PAGE                writes the batch that the second program is to answer
+//!     book judge PAGE ANSWERS      compares its answers with what the tables say
+//!
+//! Where the page agrees with the answers, it is changed in memory, one cell after the other,
+//! and each changed page has to disagree with them: what is not noticed is not held.
+
+use std::collections::{BTreeMap, HashMap};
+use std::io::{self, BufWriter, Write};
+use std::process::exit;
+
+mod book_area_probes;
+mod book_cells;
+mod book_changes;
+mod book_desk;
+mod book_numbers;
+mod book_page;
+mod book_probes;
+mod book_refusals;
+mod book_samples;
+mod book_shapes;
+mod book_sheet_probes;
+mod book_tell;
+
+use book_changes::{changes, Change};
+use book_desk::{cut, Book, Probe};
+use book_numbers::{Number, Numbers, ALL_NUMBERS};
+use book_page::{Fault, Held, Page, HELD};
+use book_probes::probes;
+use book_refusals::Job;
+use book_tell::Teller;
+
+/// How many lines of the page are told of where answers differ.
+const TOLD: usize = 12;
+
+/// What the page's own examples ask, on the page as it is and on each changed one.
+fn questions(page: &Page, numbers: &Numbers) -> Vec<Probe> {
+    let mut asked = Vec::new();
+    let mut known = HashMap::new();
+    let mut ask = |probe: Probe| {
+        if known.insert(probe.clone(), ()).is_none() {
+            asked.push(probe);
+        }
+        String::new()
+    };
+    book_samples::differences(page, numbers, &mut ask);
+    for change in changes(page).iter().filter(|change| is_in_examples(change)) {
+        book_samples::differences(&change.made_in(page), numbers, &mut ask);
+    }
+    asked
+}
+
+/// Whether a change is one of the examples, and not of what all probes are judged by.
+fn is_in_examples(change: &Change) -> bool {
+    !matches!(change.held, Some(Held::Numbers | Held::Refusals))
+}
+
+fn ask(page: &Page, numbers: &Numbers) -> io::Result<()> {
+    let mut out = BufWriter::new(io::stdout().lock());
+    for probe in probes().iter().chain(&questions(page, numbers)) {
+        out.write_all(&probe.record())?;
+    }
+    out.flush()
+}
+
+/// The second program's answers.
+struct Answers<'a> {
+    probes: Vec<Probe>,
+    lines: Vec<&'a str>,
+    /// The answers to what the page's examples ask.
+    examples: HashMap<Probe, &'a str>,
+    /// For each number the probes that have it.
+    with_number: Vec<Vec<usize>>,
+    /// For each refusal the probes that are refused so, and the others under 0.
+    refused: BTreeMap<u64, Vec<usize>>,
+}
+
+impl<'a> Answers<'a> {
+    fn of(text: &'a str, page: &Page, numbers: &Numbers) -> Result<Answers<'a>, String> {
+        let (probes, questions) = (probes(), questions(page, numbers));
+        let mut lines: Vec<&str> = text.lines().collect();
+        let asked = probes.len() + questions.len();
+        if lines.len() != asked {
+            return Err(format!("{asked} were asked and {} answered", lines.len()));
+        }
+        let examples = questions.into_iter().zip(lines.split_off(probes.len())).collect();
+        let mut with_number = vec![Vec::new(); ALL_NUMBERS];
+        let mut refused: BTreeMap<u64, Vec<usize>> = BTreeMap::new();
+        for (at, (probe, line)) in probes.iter().zip(&lines).enumerate() {
+            let number = line.strip_prefix("refused ").and_then(|rest| rest.split(' ').next());
+            let number = number.map_or(0, |number| number.parse().unwrap_or(0));
+            refused.entry(number).or_default().push(at);
+            for number in numbers_in(probe).into_iter().filter(|_| number == 0) {
+                with_number[usize::from(number.0)].push(at);
+            }
+        }
+        Ok(Answers { probes, lines, examples, with_number, refused })
+    }
+
+    fn count(&self) -> usize {
+        self.lines.len() + self.examples.len()
+    }
+
+    fn differs(&self, book: &Book, at: usize) -> bool {
+        book.answer(&self.probes[at]) != self.lines[at]
+    }
+
+    fn differences_in_examples(&self, page: &Page, numbers: &Numbers) -> Vec<Fault> {
+        let mut ask = |probe: Probe| self.examples[&probe].to_string();
+        book_samples::differences(page, numbers, &mut ask)
+    }
+}
+
+/// The numbers that an area begins with; more would not tell more about it.
+fn numbers_in(probe: &Probe) -> Vec<Number> {
+    if probe.job == Job::Write || probe.payload.len() > 64 {
+        return Vec::new();
+    }
+    let mut numbers: Vec<Number> = Vec::new();
+    for attribute in cut(&probe.payload[2..]).attributes {
+        if !numbers.contains(&attribute.number) {
+            numbers.push(attribute.number);
+        }
+    }
+    numbers
+}
+
+/// Everything in which the page differs from the answers, by its line: how often, and the
+/// first.
+fn differences(page: &Page, book: &Book, answers: &Answers) -> BTreeMap<usize, (usize, String)> {
+    let teller = Teller { page, book };
+    let mut told: BTreeMap<usize, (usize, String)> = BTreeMap::new();
+    let mut add = |fault: Fault| told.entry(fault.line).or_insert((0, fault.what)).0 += 1;
+    for (probe, second) in answers.probes.iter().zip(&answers.lines) {
+        let ours = book.answer(probe);
+        if ours != *second {
+            add(teller.tell(probe, &ours, second));
+        }
+    }
+    answers.differences_in_examples(page, &book.numbers).into_iter().for_each(&mut add);
+    book.numbers.forms_that_do_not_fit().into_iter().for_each(&mut add);
+    told
+}
+
+/// The probes that a change of a row most likely shows in.
+fn likely<'a>(change: &Change, page: &Page, answers: &'a Answers) -> Vec<&'a [usize]> {
+    let cell = |at: usize| page.table(Held::Numbers).rows.get(at).map(|row| row.cells[0].as_str());
+    let refusal = |at: usize| decimal_cell(page, at);
+    match change.held {
+        Some(Held::Numbers) => {
+            let numbers = [cell(change.row), cell(change.row + 1), Some("7")];
+            let numbers = numbers.into_iter().flatten().filter_map(Number::of);
+            numbers.map(|number| answers.with_number[usize::from(number.0)].as_slice()).collect()
+        }
+        _ => {
+            let numbers = [refusal(change.row), refusal(change.row + 1), Some(0)];
+            let probes = |number: u64| answers.refused.get(&number).map(Vec::as_slice);
+            numbers.into_iter().flatten().filter_map(probes).collect()
+        }
+    }
+}
+
+fn decimal_cell(page: &Page, row: usize) -> Option<u64> {
+    book_cells::decimal(&page.table(Held::Refusals).rows.get(row)?.cells[0])
+}
+
+/// Whether the comparison notices a change.
+fn is_noticed(change: &Change, page: &Page, answers: &Answers) -> bool {
+    let changed = change.made_in(page);
+    let book = match Book::of(&changed) {
+        Ok(book) => book,
+        Err(_) => return true,
+    };
+    if is_in_examples(change) {
+        return !answers.differences_in_examples(&changed, &book.numbers).is_empty();
+    }
+    let mut first = likely(change, page, answers).into_iter().flatten();
+    first.any(|&at| answers.differs(&book, at))
+        || !book.numbers.forms_that_do_not_fit().is_empty()
+        || !answers.differences_in_examples(page, &book.numbers).is_empty()
+        || (0..answers.probes.len()).any(|at| answers.differs(&book, at))
+}
+
+/// Holds the page against the answers; what to print, and whether all is well.
+fn judge(name: &str, page: &Page, book: &Book, answers: &Answers) -> bool {
+    let told = differences(page, book, answers);
+    for (line, (count, first)) in told.iter().take(TOLD) {
+        eprintln!("{name}:{line}: {count} wrong, the first: {first}");
+    }
+    if !told.is_empty() {
+        let count: usize = told.values().map(|(count, _)| count).sum();
+        eprintln!("book: {count} differences at {} lines of the page", told.len());
+        return false;
+    }
+    let changes = changes(page);
+    let missed: Vec<&Change> =
+        changes.iter().filter(|change| !is_noticed(change, page, answers)).collect();
+    for change in &missed {
+        let (line, what) = change.tell(page);
+        eprintln!("{name}:{line}: a change is not noticed: {what}");
+    }
+    let (rows, tables, count) = (page.rows(), HELD.len(), answers.count());
+    let held = format!("{rows} rows of {tables} tables, {count} answers, 0 differences");
+    match missed.len() {
+        0 => println!("book: {held}; {} altered tables, all noticed", changes.len()),
+        n => eprintln!("book: {held}; {} altered tables, {n} not noticed", changes.len()),
+    }
+    missed.is_empty()
+}
+
+fn run(words: &[String]) -> Result<bool, String> {
+    let read = |path: &String| std::fs::read_to_string(path).map_err(|e| format!("{path}: {e}"));
+    let (name, answers) = match words {
+        [job, page] if job == "ask" => (page, None),
+        [job, page, answers] if job == "judge" => (page, Some(answers)),
+        _ => return Err("usage: book ask PAGE, or book judge PAGE ANSWERS".into()),
+    };
+    let told = |fault: Fault| format!("{name}:{}: {}", fault.line, fault.what);
+    let page = Page::of(&read(name)?).map_err(told)?;
+    let book = Book::of(&page).map_err(told)?;
+    match answers {
+        None => ask(&page, &book.numbers).map(|()| true).map_err(|error| error.to_string()),
+        Some(path) => {
+            let text = read(path)?;
+            let answers = Answers::of(&text, &page, &book.numbers)?;
+            Ok(judge(name, &page, &book, &answers))
+        }
+    }
+}
+
+fn main() {
+    let words: Vec<String> = std::env::args().skip(1).collect();
+    match run(&words) {
+        Ok(true) => {}
+        Ok(false) => exit(1),
+        Err(reason) => {
+            eprintln!("book: {reason}");
+            exit(1);
+        }
+    }
+}
