@@ -26,7 +26,7 @@ mod book_tell;
 use book_changes::{changes, Change};
 use book_desk::{cut, Book, Probe};
 use book_numbers::{Number, Numbers, ALL_NUMBERS};
-use book_page::{Fault, Held, Page, HELD};
+use book_page::{Fault, Held, Page, Row, HELD};
 use book_probes::probes;
 use book_refusals::Job;
 use book_tell::Teller;
@@ -70,10 +70,11 @@ struct Answers<'a> {
     lines: Vec<&'a str>,
     /// The answers to what the page's examples ask.
     examples: HashMap<Probe, &'a str>,
-    /// For each number the probes that have it.
+    /// For each number the probes that have it, the shortest first.
     with_number: Vec<Vec<usize>>,
-    /// For each refusal the probes that are refused so, and the others under 0.
-    refused: BTreeMap<u64, Vec<usize>>,
+    /// For each job and refusal the probes that are refused so, the shortest first. Those
+    /// that are not refused stand under 0.
+    refused: HashMap<(Job, u64), Vec<usize>>,
 }
 
 impl<'a> Answers<'a> {
@@ -86,12 +87,16 @@ impl<'a> Answers<'a> {
         }
         let examples = questions.into_iter().zip(lines.split_off(probes.len())).collect();
         let mut with_number = vec![Vec::new(); ALL_NUMBERS];
-        let mut refused: BTreeMap<u64, Vec<usize>> = BTreeMap::new();
-        for (at, (probe, line)) in probes.iter().zip(&lines).enumerate() {
-            let number = line.strip_prefix("refused ").and_then(|rest| rest.split(' ').next());
-            let number = number.map_or(0, |number| number.parse().unwrap_or(0));
-            refused.entry(number).or_default().push(at);
-            for number in numbers_in(probe).into_iter().filter(|_| number == 0) {
+        let mut refused: HashMap<(Job, u64), Vec<usize>> = HashMap::new();
+        let mut by_length: Vec<usize> = (0..probes.len()).collect();
+        by_length.sort_by_key(|&at| probes[at].payload.len());
+        for at in by_length {
+            let probe = &probes[at];
+            let refusal =
+                lines[at].strip_prefix("refused ").and_then(|rest| rest.split(' ').next());
+            let refusal = refusal.map_or(0, |number| number.parse().unwrap_or(0));
+            refused.entry((probe.job, refusal)).or_default().push(at);
+            for number in numbers_in(probe).into_iter().filter(|_| refusal == 0) {
                 with_number[usize::from(number.0)].push(at);
             }
         }
@@ -112,13 +117,17 @@ impl<'a> Answers<'a> {
     }
 }
 
-/// The numbers that an area begins with; more would not tell more about it.
+/// The numbers that an area has; of a long one, which mostly has one number only, the first.
 fn numbers_in(probe: &Probe) -> Vec<Number> {
-    if probe.job == Job::Write || probe.payload.len() > 64 {
+    const LONG: usize = 64;
+    if probe.job == Job::Write {
         return Vec::new();
     }
+    let area = &probe.payload[2..];
+    let attributes = cut(area).attributes;
+    let looked_at = if area.len() > LONG { attributes.len().min(1) } else { attributes.len() };
     let mut numbers: Vec<Number> = Vec::new();
-    for attribute in cut(&probe.payload[2..]).attributes {
+    for attribute in &attributes[..looked_at] {
         if !numbers.contains(&attribute.number) {
             numbers.push(attribute.number);
         }
@@ -143,26 +152,31 @@ fn differences(page: &Page, book: &Book, answers: &Answers) -> BTreeMap<usize, (
     told
 }
 
-/// The probes that a change of a row most likely shows in.
+/// The probes that a change of the numbers or the refusals most likely shows in: groups of
+/// them, of each its shortest first.
 fn likely<'a>(change: &Change, page: &Page, answers: &'a Answers) -> Vec<&'a [usize]> {
-    let cell = |at: usize| page.table(Held::Numbers).rows.get(at).map(|row| row.cells[0].as_str());
-    let refusal = |at: usize| decimal_cell(page, at);
-    match change.held {
-        Some(Held::Numbers) => {
-            let numbers = [cell(change.row), cell(change.row + 1), Some("7")];
-            let numbers = numbers.into_iter().flatten().filter_map(Number::of);
-            numbers.map(|number| answers.with_number[usize::from(number.0)].as_slice()).collect()
-        }
-        _ => {
-            let numbers = [refusal(change.row), refusal(change.row + 1), Some(0)];
-            let probes = |number: u64| answers.refused.get(&number).map(Vec::as_slice);
-            numbers.into_iter().flatten().filter_map(probes).collect()
-        }
-    }
+    const SHORTEST: usize = 100;
+    let rows = |held| page.table(held).rows.iter().skip(change.row).take(2);
+    let groups: Vec<&[usize]> = if change.held == Some(Held::Numbers) {
+        let numbers = rows(Held::Numbers).filter_map(number_looked_at).chain(Number::of("7"));
+        numbers.map(|number| answers.with_number[usize::from(number.0)].as_slice()).collect()
+    } else {
+        let refusals = rows(Held::Refusals).filter_map(|row| book_cells::decimal(&row.cells[0]));
+        let jobs = [Job::Write, Job::Read, Job::Check];
+        let keys = refusals.chain([0]).flat_map(|refusal| jobs.map(|job| (job, refusal)));
+        keys.filter_map(|key| answers.refused.get(&key)).map(Vec::as_slice).collect()
+    };
+    let begins = groups.iter().map(|group| &group[..group.len().min(SHORTEST)]);
+    begins.chain(groups.iter().copied()).collect()
 }
 
-fn decimal_cell(page: &Page, row: usize) -> Option<u64> {
-    book_cells::decimal(&page.table(Held::Refusals).rows.get(row)?.cells[0])
+/// The number of a row, and one of those that have no row for the rows of all others.
+fn number_looked_at(row: &Row) -> Option<Number> {
+    match row.cells[0].as_str() {
+        "other" => Number::of("33"),
+        "3GPP other" => Number::of("3GPP 13"),
+        text => Number::of(text),
+    }
 }
 
 /// Whether the comparison notices a change.
