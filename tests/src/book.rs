@@ -6,8 +6,10 @@
 //! Where the page agrees with the answers, it is changed in memory, one cell after the other,
 //! and each changed page has to disagree with them: what is not noticed is not held.
 
-use std::collections::{BTreeMap, HashMap};
+use std::cmp::Reverse;
+use std::collections::{BTreeMap, HashMap, HashSet};
 use std::io::{self, BufWriter, Write};
+use std::iter;
 use std::process::exit;
 
 mod book_area_probes;
@@ -34,21 +36,26 @@ use book_tell::Teller;
 /// How many lines of the page are told of where answers differ.
 const TOLD: usize = 12;
 
-/// What the page's own examples ask, on the page as it is and on each changed one.
-fn questions(page: &Page, numbers: &Numbers) -> Vec<Probe> {
+/// What the examples of these pages ask, each question once.
+fn questions(pages: impl Iterator<Item = Page>, numbers: &Numbers) -> Vec<Probe> {
     let mut asked = Vec::new();
-    let mut known = HashMap::new();
-    let mut ask = |probe: Probe| {
-        if known.insert(probe.clone(), ()).is_none() {
-            asked.push(probe);
-        }
-        String::new()
-    };
-    book_samples::differences(page, numbers, &mut ask);
-    for change in changes(page).iter().filter(|change| is_in_examples(change)) {
-        book_samples::differences(&change.made_in(page), numbers, &mut ask);
+    let mut known = HashSet::new();
+    for page in pages {
+        let mut ask = |probe: Probe| {
+            if known.insert(probe.clone()) {
+                asked.push(probe);
+            }
+            String::new()
+        };
+        book_samples::differences(&page, numbers, &mut ask);
     }
     asked
+}
+
+/// The page, and all that its examples are changed to.
+fn pages_with_examples(page: &Page) -> impl Iterator<Item = Page> + '_ {
+    let changed = changes(page).into_iter().filter(is_in_examples);
+    iter::once(page.clone()).chain(changed.map(move |change| change.made_in(page)))
 }
 
 /// Whether a change is one of the examples, and not of what all probes are judged by.
@@ -58,7 +65,8 @@ fn is_in_examples(change: &Change) -> bool {
 
 fn ask(page: &Page, numbers: &Numbers) -> io::Result<()> {
     let mut out = BufWriter::new(io::stdout().lock());
-    for probe in probes().iter().chain(&questions(page, numbers)) {
+    let questions = questions(pages_with_examples(page), numbers);
+    for probe in probes().iter().chain(&questions) {
         out.write_all(&probe.record())?;
     }
     out.flush()
@@ -79,7 +87,7 @@ struct Answers<'a> {
 
 impl<'a> Answers<'a> {
     fn of(text: &'a str, page: &Page, numbers: &Numbers) -> Result<Answers<'a>, String> {
-        let (probes, questions) = (probes(), questions(page, numbers));
+        let (probes, questions) = (probes(), questions(pages_with_examples(page), numbers));
         let mut lines: Vec<&str> = text.lines().collect();
         let asked = probes.len() + questions.len();
         if lines.len() != asked {
@@ -101,10 +109,6 @@ impl<'a> Answers<'a> {
             }
         }
         Ok(Answers { probes, lines, examples, with_number, refused })
-    }
-
-    fn count(&self) -> usize {
-        self.lines.len() + self.examples.len()
     }
 
     fn differs(&self, book: &Book, at: usize) -> bool {
@@ -196,15 +200,25 @@ fn is_noticed(change: &Change, page: &Page, answers: &Answers) -> bool {
         || (0..answers.probes.len()).any(|at| answers.differs(&book, at))
 }
 
+/// Prints differences, the line with the most of them first: the others may be what comes of it.
+fn tell(name: &str, told: BTreeMap<usize, (usize, String)>) {
+    let mut told: Vec<(usize, (usize, String))> = told.into_iter().collect();
+    told.sort_by_key(|(_, (count, _))| Reverse(*count));
+    for (line, (count, first)) in told.iter().take(TOLD) {
+        match count {
+            1 => eprintln!("{name}:{line}: {first}"),
+            _ => eprintln!("{name}:{line}: {first} ({count} differences, this is the first)"),
+        }
+    }
+    let count: usize = told.iter().map(|(_, (count, _))| count).sum();
+    eprintln!("book: {count} differences; lines of the page: {}", told.len());
+}
+
 /// Holds the page against the answers; what to print, and whether all is well.
 fn judge(name: &str, page: &Page, book: &Book, answers: &Answers) -> bool {
     let told = differences(page, book, answers);
-    for (line, (count, first)) in told.iter().take(TOLD) {
-        eprintln!("{name}:{line}: {count} wrong, the first: {first}");
-    }
     if !told.is_empty() {
-        let count: usize = told.values().map(|(count, _)| count).sum();
-        eprintln!("book: {count} differences at {} lines of the page", told.len());
+        tell(name, told);
         return false;
     }
     let changes = changes(page);
@@ -214,7 +228,9 @@ fn judge(name: &str, page: &Page, book: &Book, answers: &Answers) -> bool {
         let (line, what) = change.tell(page);
         eprintln!("{name}:{line}: a change is not noticed: {what}");
     }
-    let (rows, tables, count) = (page.rows(), HELD.len(), answers.count());
+    let examples = questions(iter::once(page.clone()), &book.numbers);
+    let count = answers.lines.len() + examples.len();
+    let (rows, tables) = (page.rows(), HELD.len());
     let held = format!("{rows} rows of {tables} tables, {count} answers, 0 differences");
     match missed.len() {
         0 => println!("book: {held}; {} altered tables, all noticed", changes.len()),

@@ -3,7 +3,7 @@
 
 use crate::book_cells::{decimal, hexadecimal, octets, show_octets};
 use crate::book_numbers::presence_words;
-use crate::book_page::{Held, Page, Row};
+use crate::book_page::{Held, Page, Row, HELD};
 use crate::book_refusals::SECOND_WORDS;
 
 pub enum Edit {
@@ -76,9 +76,7 @@ impl Change {
 /// Every change that is tried.
 pub fn changes(page: &Page) -> Vec<Change> {
     let mut changes = Vec::new();
-    for held in
-        [Held::Refusals, Held::Numbers, Held::Forms, Held::Sheet, Held::Entries, Held::Cases]
-    {
+    for held in HELD {
         let rows = &page.table(held).rows;
         for (at, row) in rows.iter().enumerate() {
             let edits = match held {
@@ -87,7 +85,7 @@ pub fn changes(page: &Page) -> Vec<Change> {
                 Held::Forms => form_edits(row, rows),
                 Held::Sheet => sheet_edits(row),
                 Held::Entries => entry_edits(row),
-                Held::Cases => case_edits(row, rows.get(at + 1)),
+                Held::Cases => case_edits(row, rows.get(at + 1), rows),
             };
             let change = |edit| Change { held: Some(held), row: at, edit };
             changes.extend(edits.into_iter().map(change));
@@ -104,7 +102,7 @@ fn numbers_moved(text: &str) -> Vec<String> {
     let words: Vec<&str> = text.split(' ').collect();
     let mut texts = Vec::new();
     for (at, word) in words.iter().enumerate() {
-        let number = word.trim_end_matches(|sign| sign == ',' || sign == ':');
+        let number = word.trim_end_matches([',', ':']);
         if let Some(value) = decimal(number) {
             for moved in [Some(value + 1), value.checked_sub(1)].into_iter().flatten() {
                 let mut others: Vec<String> = words.iter().map(|word| word.to_string()).collect();
@@ -163,6 +161,7 @@ fn refusal_edits(row: &Row, next: Option<&Row>) -> Vec<Edit> {
     // With n = 7 no octet is left for m, so m = 1 is never met and this bound says the same.
     when.retain(|text| !text.contains("m is not 1 to 248"));
     edits.extend(cells(1, when));
+    edits.extend(cells(1, parts_of_flags_left_out(&row.cells[1])));
     let mut second = others(SECOND_WORDS, &row.cells[2]);
     second.extend(numbers_moved(&row.cells[2]));
     if row.cells[3] == "write" {
@@ -187,6 +186,16 @@ fn refusal_edits(row: &Row, next: Option<&Row>) -> Vec<Edit> {
     edits
 }
 
+/// The texts with one of the flags left out, where they are listed at the end.
+fn parts_of_flags_left_out(text: &str) -> Vec<String> {
+    let words = "flags are not one of ";
+    let (begin, flags) = match text.find(words) {
+        Some(at) => text.split_at(at + words.len()),
+        None => return Vec::new(),
+    };
+    parts_left_out(flags, ", ").iter().map(|flags| format!("{begin}{flags}")).collect()
+}
+
 fn number_edits(row: &Row, next: Option<&Row>, rows: &[Row]) -> Vec<Edit> {
     let column = |at: usize| rows.iter().map(move |row| row.cells[at].as_str());
     let mut edits = vec![Edit::Remove];
@@ -197,7 +206,7 @@ fn number_edits(row: &Row, next: Option<&Row>, rows: &[Row]) -> Vec<Edit> {
     edits.extend(cells(4, others(["0", "1", "2", "3", "4", "5", "6", "7"], &row.cells[4])));
     edits.extend(cells(5, others(column(5).chain(["0 to 14"]), &row.cells[5])));
     edits.extend(cells(5, numbers_moved(&row.cells[5])));
-    edits.extend(cells(5, parts_left_out(&row.cells[5])));
+    edits.extend(cells(5, parts_left_out(&row.cells[5], ", ")));
     for kind in 6..12 {
         let mut words = others(presence_words(), &row.cells[kind]);
         // A 7 cannot be absent where a 7 is there.
@@ -211,12 +220,12 @@ fn number_edits(row: &Row, next: Option<&Row>, rows: &[Row]) -> Vec<Edit> {
     edits
 }
 
-/// A list with each of its parts left out.
-fn parts_left_out(text: &str) -> Vec<String> {
-    let parts: Vec<&str> = text.split(", ").collect();
+/// The texts with one of the parts left out, of several.
+fn parts_left_out(text: &str, between: &str) -> Vec<String> {
+    let parts: Vec<&str> = text.split(between).collect();
     let left_out = |at: usize| {
         let kept = parts.iter().enumerate().filter(|(part, _)| *part != at);
-        kept.map(|(_, part)| *part).collect::<Vec<_>>().join(", ")
+        kept.map(|(_, part)| *part).collect::<Vec<_>>().join(between)
     };
     (0..parts.len()).filter(|_| parts.len() > 1).map(left_out).collect()
 }
@@ -253,26 +262,32 @@ fn entry_edits(row: &Row) -> Vec<Edit> {
     edits
 }
 
-/// Only changes that make a case untrue. An ON and an OFF get the same list, and many areas
-/// are refused alike, so kinds and flags become such as are refused, and areas other ones of
-/// the table.
-fn case_edits(row: &Row, next: Option<&Row>) -> Vec<Edit> {
+/// Only changes that make a case untrue. An ON and an OFF get the same list, and flags are
+/// mostly without effect, so kinds and flags become such as are refused; in a sheet that is
+/// read they show.
+fn case_edits(row: &Row, next: Option<&Row>, rows: &[Row]) -> Vec<Edit> {
     let mut edits = vec![Edit::Remove];
+    let flags_are_taken = ["0", "1", "2", "4", "5", "6"].contains(&row.cells[3].as_str());
+    let flags = if flags_are_taken { ["3", "7", "8"] } else { ["0", "2", "4"] };
     edits.extend(cells(2, others(["0", "7"], &row.cells[2])));
-    let taken = ["0", "1", "2", "4", "5", "6"].contains(&row.cells[3].as_str());
-    let flags = if taken { ["3", "7", "8"] } else { ["0", "2", "4"] };
     edits.extend(cells(3, others(flags, &row.cells[3])));
-    let refused = row.cells[5].starts_with("refused");
-    if refused {
+    if row.cells[1] == "read" {
+        edits.extend(cells(2, numbers_moved(&row.cells[2])));
+        edits.extend(cells(3, numbers_moved(&row.cells[3])));
+    }
+    // Wrong flags are refused whatever the area is.
+    if flags_are_taken {
+        let areas = rows.iter().map(|row| row.cells[4].as_str());
+        edits.extend(cells(4, others(areas, &row.cells[4])));
+    }
+    if row.cells[5].starts_with("refused") {
         edits.extend(cells(5, numbers_moved(&row.cells[5])));
     } else {
         edits.extend(cells(5, digits_moved(&row.cells[5])));
-        edits.extend(cells(5, parts_left_out(&row.cells[5])));
-        // A refusal is the same in both jobs.
+        edits.extend(cells(5, parts_left_out(&row.cells[5], " ")));
+        // A refusal is the same in both jobs, a sheet or list is not.
         edits.extend(cells(1, others(["read", "check", "read, check"], &row.cells[1])));
     }
-    if next.is_some() {
-        edits.extend([Edit::SwapCell(0), Edit::SwapRow]);
-    }
+    edits.extend(next.map(|_| Edit::SwapCell(0)));
     edits
 }

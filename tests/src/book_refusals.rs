@@ -94,7 +94,7 @@ const WHEN: [(About, &str, &[Job]); 17] = [
 
 /// The numbers that stand in the text where the words have # or $, if it has these words.
 fn numbers_among(words: &str, text: &str) -> Option<Vec<Vec<u64>>> {
-    let gap = |words: &str| words.find(|sign| sign == '#' || sign == '$');
+    let gap = |words: &str| words.find(['#', '$']);
     let at = match gap(words) {
         Some(at) => at,
         None => return (words == text).then(Vec::new),

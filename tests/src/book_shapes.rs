@@ -1,6 +1,6 @@
 //! Shapes of values, as the column Shape has them, and how a form stores a value.
 
-use crate::book_cells::{decimal, range};
+use crate::book_cells::{decimal, print_octets, range};
 
 /// How many octets or digits: from the first count to the last, by steps.
 #[derive(Clone, Copy)]
@@ -103,7 +103,7 @@ impl Shape {
     }
 
     /// The stored octet of form 7 for an octet of the value.
-    fn to_one_octet(self, octet: u8) -> u8 {
+    fn octet_to_store(self, octet: u8) -> u8 {
         match self {
             Shape::Digits(_) | Shape::Hexadecimal(_) => digit_value(octet),
             _ => octet,
@@ -111,7 +111,7 @@ impl Shape {
     }
 
     /// The value's octet for a stored octet of form 7.
-    fn from_one_octet(self, octet: u8) -> u8 {
+    fn octet_stored_as(self, octet: u8) -> u8 {
         match self {
             Shape::Digits(_) | Shape::Hexadecimal(_) if octet < 10 => b'0' + octet,
             Shape::Digits(_) | Shape::Hexadecimal(_) if octet < 16 => b'A' + octet - 10,
@@ -153,7 +153,7 @@ pub fn stored(form: u8, shape: Shape, value: &[u8]) -> Vec<u8> {
             let release = digit_value(text[0]) * 10 + digit_value(text[1]);
             [&[release], two_to_an_octet(value.get(3..).unwrap_or(&[])).as_slice()].concat()
         }
-        7 => value.iter().map(|&octet| shape.to_one_octet(octet)).collect(),
+        7 => value.iter().map(|&octet| shape.octet_to_store(octet)).collect(),
         _ => value.to_vec(),
     }
 }
@@ -183,12 +183,12 @@ pub fn value_stored_so(form: u8, shape: Shape, count: u8, stored: &[u8]) -> Opti
         0..=3 => Some(stored.to_vec()),
         // A half of 10 or more becomes an octet that is no digit.
         4 => Some(halves(stored).iter().take(usize::from(count)).map(|half| b'0' + half).collect()),
-        5 => Some(crate::book_cells::print_octets(stored).into_bytes()),
+        5 => Some(print_octets(stored).into_bytes()),
         6 => {
             let (release, rest) = stored.split_first()?;
-            Some(format!("{release}-{}", crate::book_cells::print_octets(rest)).into_bytes())
+            Some(format!("{release}-{}", print_octets(rest)).into_bytes())
         }
-        7 => Some(stored.iter().map(|&octet| shape.from_one_octet(octet)).collect()),
+        7 => Some(stored.iter().map(|&octet| shape.octet_stored_as(octet)).collect()),
         _ => None,
     }
 }

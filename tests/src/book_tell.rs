@@ -1,6 +1,6 @@
 //! Differences in words: the line of the page they speak against, what was asked, both answers.
 
-use crate::book_cells::show_octets;
+use crate::book_cells::{print_octets, show_octets};
 use crate::book_desk::{cut, Book, Probe};
 use crate::book_numbers::{Number, VENDOR_TYPE};
 use crate::book_page::{Fault, Held, Page};
@@ -47,6 +47,11 @@ fn refusal(line: &str) -> Option<(u64, usize)> {
     Some((number.parse().ok()?, second.parse().unwrap_or(0)))
 }
 
+/// Whether this is no refusal, or one at another place.
+fn is_elsewhere(refusal: Option<(u64, usize)>, place: usize) -> bool {
+    refusal.map_or(true, |(_, other)| other != place)
+}
+
 pub struct Teller<'a> {
     pub page: &'a Page,
     pub book: &'a Book,
@@ -57,7 +62,9 @@ impl Teller<'_> {
         let found = match (refusal(ours), refusal(second)) {
             (None, None) if probe.job == Job::Check => self.by_entry(ours, second),
             (None, None) if probe.job == Job::Read => self.by_item(probe, second),
-            (Some((23, place)), None) | (None, Some((23, place))) => {
+            (Some((23, place)), other) | (other, Some((23, place)))
+                if is_elsewhere(other, place) =>
+            {
                 self.by_written_item(probe, place)
             }
             _ => None,
@@ -105,8 +112,7 @@ impl Teller<'_> {
         let mut rest = second.get(18..)?;
         for attribute in cut(&probe.payload[2..]).attributes {
             let numbers = &self.book.numbers;
-            let item =
-                crate::book_cells::print_octets(&numbers.item(attribute.number, attribute.value));
+            let item = print_octets(&numbers.item(attribute.number, attribute.value));
             match rest.strip_prefix(item.as_str()) {
                 Some(behind) => rest = behind,
                 None => {
