@@ -62,6 +62,9 @@ impl Teller<'_> {
         let found = match (refusal(ours), refusal(second)) {
             (None, None) if probe.job == Job::Check => self.by_entry(ours, second),
             (None, None) if probe.job == Job::Read => self.by_item(probe, second),
+            (Some((23, one)), Some((23, other))) if one != other => {
+                self.by_written_item(probe, one.min(other))
+            }
             (Some((23, place)), other) | (other, Some((23, place)))
                 if is_elsewhere(other, place) =>
             {
