@@ -13,11 +13,13 @@ use std::iter;
 use std::process::exit;
 
 mod book_area_probes;
+mod book_attributes;
 mod book_cells;
 mod book_changes;
 mod book_desk;
 mod book_numbers;
 mod book_page;
+mod book_presence;
 mod book_probes;
 mod book_refusals;
 mod book_samples;
@@ -25,9 +27,10 @@ mod book_shapes;
 mod book_sheet_probes;
 mod book_tell;
 
+use book_attributes::{Number, ALL_NUMBERS};
 use book_changes::{changes, Change};
 use book_desk::{cut, Book, Probe};
-use book_numbers::{Number, Numbers, ALL_NUMBERS};
+use book_numbers::Numbers;
 use book_page::{Fault, Held, Page, Row, HELD};
 use book_probes::probes;
 use book_refusals::Job;
@@ -60,7 +63,7 @@ fn pages_with_examples(page: &Page) -> impl Iterator<Item = Page> + '_ {
 
 /// Whether a change is one of the examples, and not of what all probes are judged by.
 fn is_in_examples(change: &Change) -> bool {
-    !matches!(change.held, Some(Held::Numbers | Held::Refusals))
+    !matches!(change.held, Some(Held::Numbers | Held::Presence | Held::Refusals))
 }
 
 fn ask(page: &Page, numbers: &Numbers) -> io::Result<()> {
@@ -161,14 +164,18 @@ fn differences(page: &Page, book: &Book, answers: &Answers) -> BTreeMap<usize, (
 fn likely<'a>(change: &Change, page: &Page, answers: &'a Answers) -> Vec<&'a [usize]> {
     const SHORTEST: usize = 100;
     let rows = |held| page.table(held).rows.iter().skip(change.row).take(2);
-    let groups: Vec<&[usize]> = if change.held == Some(Held::Numbers) {
-        let numbers = rows(Held::Numbers).filter_map(number_looked_at).chain(Number::of("7"));
-        numbers.map(|number| answers.with_number[usize::from(number.0)].as_slice()).collect()
-    } else {
-        let refusals = rows(Held::Refusals).filter_map(|row| book_cells::decimal(&row.cells[0]));
-        let jobs = [Job::Write, Job::Read, Job::Check];
-        let keys = refusals.chain([0]).flat_map(|refusal| jobs.map(|job| (job, refusal)));
-        keys.filter_map(|key| answers.refused.get(&key)).map(Vec::as_slice).collect()
+    let groups: Vec<&[usize]> = match change.held {
+        Some(Held::Numbers) => {
+            let numbers = rows(Held::Numbers).filter_map(number_looked_at).chain(Number::of("7"));
+            numbers.map(|number| answers.with_number[usize::from(number.0)].as_slice()).collect()
+        }
+        Some(Held::Presence) => vec![&answers.refused[&(Job::Check, 0)]],
+        _ => {
+            let numbers = rows(Held::Refusals).filter_map(|row| book_cells::decimal(&row.cells[0]));
+            let jobs = [Job::Write, Job::Read, Job::Check];
+            let keys = numbers.chain([0]).flat_map(|number| jobs.map(|job| (job, number)));
+            keys.filter_map(|key| answers.refused.get(&key)).map(Vec::as_slice).collect()
+        }
     };
     let begins = groups.iter().map(|group| &group[..group.len().min(SHORTEST)]);
     begins.chain(groups.iter().copied()).collect()

@@ -2,7 +2,6 @@
 //! every one of them.
 
 use crate::book_cells::{decimal, hexadecimal, octets, show_octets};
-use crate::book_numbers::presence_words;
 use crate::book_page::{Held, Page, Row, HELD};
 use crate::book_refusals::SECOND_WORDS;
 
@@ -81,7 +80,8 @@ pub fn changes(page: &Page) -> Vec<Change> {
         for (at, row) in rows.iter().enumerate() {
             let edits = match held {
                 Held::Refusals => refusal_edits(row, rows.get(at + 1)),
-                Held::Numbers => number_edits(row, rows.get(at + 1), rows),
+                Held::Numbers => number_edits(row, rows.get(at + 1), page),
+                Held::Presence => presence_edits(row, rows),
                 Held::Forms => form_edits(row, rows),
                 Held::Sheet => sheet_edits(row),
                 Held::Entries => entry_edits(row),
@@ -196,7 +196,9 @@ fn parts_of_flags_left_out(text: &str) -> Vec<String> {
     parts_left_out(flags, ", ").iter().map(|flags| format!("{begin}{flags}")).collect()
 }
 
-fn number_edits(row: &Row, next: Option<&Row>, rows: &[Row]) -> Vec<Edit> {
+fn number_edits(row: &Row, next: Option<&Row>, page: &Page) -> Vec<Edit> {
+    let rows = &page.table(Held::Numbers).rows;
+    let words = || page.table(Held::Presence).rows.iter().map(|row| row.cells[0].as_str());
     let column = |at: usize| rows.iter().map(move |row| row.cells[at].as_str());
     let mut edits = vec![Edit::Remove];
     edits.extend(cells(0, numbers_moved(&row.cells[0])));
@@ -208,7 +210,7 @@ fn number_edits(row: &Row, next: Option<&Row>, rows: &[Row]) -> Vec<Edit> {
     edits.extend(cells(5, numbers_moved(&row.cells[5])));
     edits.extend(cells(5, parts_left_out(&row.cells[5], ", ")));
     for kind in 6..12 {
-        let mut words = others(presence_words(), &row.cells[kind]);
+        let mut words = others(words(), &row.cells[kind]);
         // A 7 cannot be absent where a 7 is there.
         words.retain(|word| row.cells[0] != "7" || word != "if 7");
         edits.extend(cells(kind, words));
@@ -216,6 +218,16 @@ fn number_edits(row: &Row, next: Option<&Row>, rows: &[Row]) -> Vec<Edit> {
     edits.extend(cells(12, others(["yes", "no"], &row.cells[12])));
     if next.is_some() {
         edits.extend([Edit::SwapCell(0), Edit::SwapCell(1)]);
+    }
+    edits
+}
+
+fn presence_edits(row: &Row, rows: &[Row]) -> Vec<Edit> {
+    let mut edits = vec![Edit::Remove];
+    for column in 0..3 {
+        let words = rows.iter().map(|row| row.cells[column].as_str());
+        edits.extend(cells(column, others(words, &row.cells[column])));
+        edits.extend(cells(column, numbers_moved(&row.cells[column])));
     }
     edits
 }

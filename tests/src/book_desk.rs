@@ -1,7 +1,8 @@
 //! The desk as the page's tables tell it: what it answers where it is asked something.
 
+use crate::book_attributes::{Attribute, Number, THREE_GPP_ID, VENDOR_TYPE};
 use crate::book_cells::print_octets;
-use crate::book_numbers::{Attribute, Number, Numbers, THREE_GPP_ID, VENDOR_TYPE};
+use crate::book_numbers::Numbers;
 use crate::book_page::{Fault, Page};
 use crate::book_refusals::{AskedOfArea, AskedOfSheet, Job, Refusals};
 use crate::book_shapes::stored_length;

@@ -1,118 +1,14 @@
 //! The table of the numbers: what it says of an attribute, and from that the list of an area's
 //! breaches and the item of an attribute.
 
+use crate::book_attributes::{Attribute, Number, ALL_NUMBERS, THREE_GPP_ID, VENDOR_TYPE};
 use crate::book_cells::{decimal, hexadecimal, range};
 use crate::book_page::{fault, Fault, Held, Page, Row};
+use crate::book_presence::{Presence, Presences};
 use crate::book_shapes::{stored, stored_length, value_stored_so, Shape};
-
-/// Type 26 belongs to plain attributes only with another vendor's id.
-pub const VENDOR_TYPE: u8 = 26;
-pub const THREE_GPP_ID: [u8; 4] = [0x00, 0x00, 0x28, 0xAF];
-const LONGEST_PLAIN: usize = 253;
-const LONGEST_THREE_GPP: usize = 246;
 
 const USER_PASSWORD: Number = Number(2);
 const CHAP_PASSWORD: Number = Number(3);
-const FRAMED_PROTOCOL: Number = Number(7);
-const NAS_IDENTIFIER: Number = Number(32);
-
-/// What an attribute is known by: below 256 its type, from 256 on the number of a 3GPP
-/// sub-attribute.
-#[derive(Clone, Copy, PartialEq)]
-pub struct Number(pub u16);
-
-pub const ALL_NUMBERS: usize = 512;
-
-impl Number {
-    pub fn three_gpp(number: u8) -> Number {
-        Number(256 + u16::from(number))
-    }
-
-    pub fn is_three_gpp(self) -> bool {
-        self.0 >= 256
-    }
-
-    /// Type and sub-attribute number.
-    pub fn octets(self) -> [u8; 2] {
-        if self.is_three_gpp() {
-            [VENDOR_TYPE, self.0 as u8]
-        } else {
-            [self.0 as u8, 0]
-        }
-    }
-
-    /// 44; 3GPP 3.
-    pub fn of(text: &str) -> Option<Number> {
-        let octet = |text: &str| decimal(text).and_then(|number| u8::try_from(number).ok());
-        match text.strip_prefix("3GPP ") {
-            Some(number) => octet(number).map(Number::three_gpp),
-            None => octet(text).map(|number| Number(u16::from(number))),
-        }
-    }
-
-    pub fn text(self) -> String {
-        match self.octets() {
-            [VENDOR_TYPE, sub] if self.is_three_gpp() => format!("3GPP {sub}"),
-            [plain, _] => plain.to_string(),
-        }
-    }
-
-    /// The longest value that an attribute of this number can have.
-    pub fn longest(self) -> usize {
-        if self.is_three_gpp() {
-            LONGEST_THREE_GPP
-        } else {
-            LONGEST_PLAIN
-        }
-    }
-
-    /// The attribute with this value.
-    pub fn attribute(self, value: &[u8]) -> Vec<u8> {
-        let length = value.len() as u8 + 2;
-        let [first, sub] = self.octets();
-        if self.is_three_gpp() {
-            [&[first, length + 6], THREE_GPP_ID.as_slice(), &[sub, length], value].concat()
-        } else {
-            [&[first, length], value].concat()
-        }
-    }
-}
-
-pub struct Attribute<'a> {
-    pub place: usize,
-    pub number: Number,
-    pub value: &'a [u8],
-}
-
-#[derive(Clone, Copy, PartialEq)]
-enum Presence {
-    Must,
-    May,
-    No,
-    Pap,
-    Chap,
-    Class,
-    ClassMust,
-    Or32,
-    If7,
-}
-
-/// The words of the six columns, each with its meaning.
-const PRESENCE: [(&str, Presence); 9] = [
-    ("must", Presence::Must),
-    ("may", Presence::May),
-    ("no", Presence::No),
-    ("PAP", Presence::Pap),
-    ("CHAP", Presence::Chap),
-    ("Class", Presence::Class),
-    ("Class, must", Presence::ClassMust),
-    ("or 32", Presence::Or32),
-    ("if 7", Presence::If7),
-];
-
-pub fn presence_words() -> impl Iterator<Item = &'static str> {
-    PRESENCE.iter().map(|(word, _)| *word)
-}
 
 enum Allowed {
     Any,
@@ -180,19 +76,19 @@ fn known<T>(meaning: Option<T>, row: &Row, column: usize) -> Result<T, Fault> {
     )
 }
 
-fn presences(row: &Row, is_other: bool) -> Result<[Presence; 6], Fault> {
-    let mut presences = [Presence::May; 6];
+fn presences(row: &Row, is_other: bool, words: &Presences) -> Result<[Presence; 6], Fault> {
+    let mut presences = [Presence::default(); 6];
     for (column, presence) in (PRESENCE_COLUMN..ONCE_COLUMN).zip(&mut presences) {
-        let word = PRESENCE.iter().find(|(word, _)| *word == row.cells[column]);
-        *presence = known(word.map(|(_, meaning)| *meaning), row, column)?;
-        if is_other && !matches!(presence, Presence::May | Presence::No) {
-            return fault(row.line, "all other numbers at once can only have may or no");
+        *presence = known(words.meaning(&row.cells[column]), row, column)?;
+        if is_other && presence.absent.is_some() {
+            let what = format!("'{}' cannot be said of all other numbers", row.cells[column]);
+            return fault(row.line, what);
         }
     }
     Ok(presences)
 }
 
-fn number_row(row: &Row) -> Result<NumberRow, Fault> {
+fn number_row(row: &Row, words: &Presences) -> Result<NumberRow, Fault> {
     let is_other = row.cells[0] == "other" || row.cells[0] == "3GPP other";
     let (number, entry) = if is_other {
         if !row.cells[1].is_empty() {
@@ -216,7 +112,7 @@ fn number_row(row: &Row) -> Result<NumberRow, Fault> {
         shape: known(Shape::of(&row.cells[3]), row, 3)?,
         form: known(form, row, 4)?,
         allowed: known(Allowed::of(&row.cells[5]), row, 5)?,
-        presence: presences(row, is_other)?,
+        presence: presences(row, is_other, words)?,
         once: known(once, row, ONCE_COLUMN)?,
     })
 }
@@ -230,7 +126,9 @@ pub struct Numbers {
 impl Numbers {
     pub fn of(page: &Page) -> Result<Numbers, Fault> {
         let table = page.table(Held::Numbers);
-        let rows: Vec<NumberRow> = table.rows.iter().map(number_row).collect::<Result<_, _>>()?;
+        let words = Presences::of(page)?;
+        let rows = table.rows.iter().map(|row| number_row(row, &words));
+        let rows: Vec<NumberRow> = rows.collect::<Result<_, _>>()?;
         let other = |name: &str| {
             let mut found = (0..rows.len()).filter(|&at| table.rows[at].cells[0] == name);
             match (found.next(), found.next()) {
@@ -306,18 +204,25 @@ impl Numbers {
         let mut there = [false; ALL_NUMBERS];
         let mut list = Vec::new();
         for attribute in area {
-            let row = self.row(attribute.number);
-            let before = std::mem::replace(&mut there[usize::from(attribute.number.0)], true);
-            let breach = |rule| entry(attribute.place, rule, row, attribute.number);
-            list.extend(row.breaks_at_attribute(kind, flags, attribute.value, before).map(breach));
+            there[usize::from(attribute.number.0)] = true;
         }
         let is_there = |number: Number| there[usize::from(number.0)];
+        let mut before = [false; ALL_NUMBERS];
+        for attribute in area {
+            let row = self.row(attribute.number);
+            let before = std::mem::replace(&mut before[usize::from(attribute.number.0)], true);
+            let [shape, value] = row.breaks_by_value(kind, attribute.value);
+            let once = (row.once && before).then_some(3);
+            let presence = row.presence[usize::from(kind) - 1].broken_there(flags, is_there);
+            let broken = [shape, value, once, presence].into_iter().flatten();
+            list.extend(broken.map(|rule| entry(attribute.place, rule, row, attribute.number)));
+        }
         if kind == 1 && is_there(USER_PASSWORD) && is_there(CHAP_PASSWORD) {
             list.push(entry(length, 5, self.row(CHAP_PASSWORD), CHAP_PASSWORD));
         }
         for row in &self.rows {
             if let Some(number) = row.number.filter(|&number| !is_there(number)) {
-                let broken = row.breaks_by_absence(kind, flags, is_there);
+                let broken = row.presence[usize::from(kind) - 1].broken_absent(flags, is_there);
                 list.extend(broken.map(|rule| entry(length, rule, row, number)));
             }
         }
@@ -335,40 +240,10 @@ fn entry(place: usize, rule: u32, row: &NumberRow, number: Number) -> u32 {
 }
 
 impl NumberRow {
-    /// The rules from 1 to 4 that an attribute breaks.
-    fn breaks_at_attribute(
-        &self,
-        kind: u8,
-        flags: u8,
-        value: &[u8],
-        before: bool,
-    ) -> impl Iterator<Item = u32> {
+    /// The rules 1 and 2, each where a value breaks it.
+    fn breaks_by_value(&self, kind: u8, value: &[u8]) -> [Option<u32>; 2] {
         let met = self.shape.is_met(value);
         let allowed = !met || self.allowed.has(kind, self.shape.number(value));
-        let permitted = match self.presence[usize::from(kind) - 1] {
-            Presence::No => false,
-            Presence::Class | Presence::ClassMust => flags & 4 != 0,
-            _ => true,
-        };
-        let broken = [(1, !met), (2, !allowed), (3, self.once && before), (4, !permitted)];
-        broken.into_iter().filter(|(_, is_broken)| *is_broken).map(|(rule, _)| rule)
-    }
-
-    /// The rule, 6 or 7, that is broken where this number is absent.
-    fn breaks_by_absence(
-        &self,
-        kind: u8,
-        flags: u8,
-        is_there: impl Fn(Number) -> bool,
-    ) -> Option<u32> {
-        match self.presence[usize::from(kind) - 1] {
-            Presence::Must => Some(6),
-            Presence::Pap => (flags & 1 != 0).then_some(7),
-            Presence::Chap => (flags & 2 != 0).then_some(7),
-            Presence::ClassMust => (flags & 4 != 0).then_some(7),
-            Presence::Or32 => (!is_there(NAS_IDENTIFIER)).then_some(7),
-            Presence::If7 => is_there(FRAMED_PROTOCOL).then_some(7),
-            Presence::May | Presence::No | Presence::Class => None,
-        }
+        [(!met).then_some(1), (!allowed).then_some(2)]
     }
 }

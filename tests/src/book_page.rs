@@ -30,12 +30,21 @@ pub enum Held {
     Forms,
     Sheet,
     Numbers,
+    Presence,
     Entries,
     Cases,
 }
 
-pub const HELD: [Held; 6] =
-    [Held::Refusals, Held::Forms, Held::Sheet, Held::Numbers, Held::Entries, Held::Cases];
+/// In the order of the variants.
+pub const HELD: [Held; 7] = [
+    Held::Refusals,
+    Held::Forms,
+    Held::Sheet,
+    Held::Numbers,
+    Held::Presence,
+    Held::Entries,
+    Held::Cases,
+];
 
 impl Held {
     /// The heading that the table stands under.
@@ -43,7 +52,7 @@ impl Held {
         match self {
             Held::Refusals => "Refusals",
             Held::Forms | Held::Sheet => "The item, form by form",
-            Held::Numbers => "The numbers",
+            Held::Numbers | Held::Presence => "The numbers",
             Held::Entries => "Reading an entry",
             Held::Cases => "Worked cases",
         }
@@ -59,6 +68,7 @@ impl Held {
                 "No.|Entry|Name|Shape|Form|Allowed values\
                  |1 Access|2 START|3 STOP|4 ON|5 OFF|6 Interim|Once"
             }
+            Held::Presence => "Presence|Absent|There",
             Held::Entries => "Entry|Place|Rule|Number|In words",
             Held::Cases => "Case|Job|Kind|Flags|Area|Answer",
         };

@@ -2,8 +2,8 @@
 //! that a changed table cannot hide behind changed questions. Here those for the numbers.
 
 use crate::book_area_probes::area_probes;
+use crate::book_attributes::{Number, ALL_NUMBERS};
 use crate::book_desk::Probe;
-use crate::book_numbers::{Number, ALL_NUMBERS};
 use crate::book_refusals::Job;
 use crate::book_sheet_probes::sheet_probes;
 

@@ -1,9 +1,10 @@
 //! The tables of single answers: the item form by form, the whole sheet, the worked cases, and
 //! how an entry is read.
 
+use crate::book_attributes::Number;
 use crate::book_cells::{decimal, decimals, hexadecimal, octets, print_octets, range};
 use crate::book_desk::{sheet_head, Probe};
-use crate::book_numbers::{Number, Numbers};
+use crate::book_numbers::Numbers;
 use crate::book_page::{Fault, Held, Page, Row};
 use crate::book_probes::{probe_area, AMPLE, KINDS};
 use crate::book_refusals::Job;

@@ -1,8 +1,8 @@
 //! Differences in words: the line of the page they speak against, what was asked, both answers.
 
+use crate::book_attributes::{Number, VENDOR_TYPE};
 use crate::book_cells::{print_octets, show_octets};
 use crate::book_desk::{cut, Book, Probe};
-use crate::book_numbers::{Number, VENDOR_TYPE};
 use crate::book_page::{Fault, Held, Page};
 use crate::book_refusals::Job;
 use crate::book_shapes::stored_length;
