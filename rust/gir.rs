@@ -96,8 +96,8 @@ pub fn read<'a>(
 }
 
 /// Checks the area; its breaches go to the start of `list` in rising order, and that part is
-/// given. Refuses as `read` does, with 10 for 9; then `list` is as it was. `LONGEST_LIST` entries are always room enough. `Breach::of` tells what an entry
-/// says.
+/// given. Refuses as `read` does, with 10 for 9; then `list` is as it was. `LONGEST_LIST` entries
+/// are always room enough. `Breach::of` tells what an entry says.
 pub fn check<'a>(
     area: &[u8],
     kind: u32,

@@ -215,7 +215,7 @@ fn number_edits(row: &Row, next: Option<&Row>, page: &Page) -> Vec<Edit> {
         words.retain(|word| row.cells[0] != "7" || word != "if 7");
         edits.extend(cells(kind, words));
     }
-    edits.extend(cells(12, others(["yes", "no"], &row.cells[12])));
+    edits.extend(cells(12, others(["once", "any"], &row.cells[12])));
     if next.is_some() {
         edits.extend([Edit::SwapCell(0), Edit::SwapCell(1)]);
     }
@@ -274,23 +274,14 @@ fn entry_edits(row: &Row) -> Vec<Edit> {
     edits
 }
 
-/// Only changes that make a case untrue. An ON and an OFF get the same list, and flags are
-/// mostly without effect, so kinds and flags become such as are refused; in a sheet that is
-/// read they show.
+/// Only changes that make a case untrue. The last one is an example that may be left out.
 fn case_edits(row: &Row, next: Option<&Row>, rows: &[Row]) -> Vec<Edit> {
-    let mut edits = vec![Edit::Remove];
-    let flags_are_taken = ["0", "1", "2", "4", "5", "6"].contains(&row.cells[3].as_str());
-    let flags = if flags_are_taken { ["3", "7", "8"] } else { ["0", "2", "4"] };
-    edits.extend(cells(2, others(["0", "7"], &row.cells[2])));
-    edits.extend(cells(3, others(flags, &row.cells[3])));
-    if row.cells[1] == "read" {
-        edits.extend(cells(2, numbers_moved(&row.cells[2])));
-        edits.extend(cells(3, numbers_moved(&row.cells[3])));
-    }
-    // Wrong flags are refused whatever the area is.
-    if flags_are_taken {
-        let areas = rows.iter().map(|row| row.cells[4].as_str());
-        edits.extend(cells(4, others(areas, &row.cells[4])));
+    let mut edits = kind_and_flags_edits(row);
+    // A wrong kind and wrong flags are refused whatever the area is.
+    if is_taken(row) {
+        let alike =
+            rows.iter().filter(|other| (other.cells[1] == "write") == (row.cells[1] == "write"));
+        edits.extend(cells(4, others(alike.map(|other| other.cells[4].as_str()), &row.cells[4])));
     }
     if row.cells[5].starts_with("refused") {
         edits.extend(cells(5, numbers_moved(&row.cells[5])));
@@ -300,6 +291,34 @@ fn case_edits(row: &Row, next: Option<&Row>, rows: &[Row]) -> Vec<Edit> {
         // A refusal is the same in both jobs, a sheet or list is not.
         edits.extend(cells(1, others(["read", "check", "read, check"], &row.cells[1])));
     }
-    edits.extend(next.map(|_| Edit::SwapCell(0)));
+    if next.is_some() {
+        edits.extend([Edit::SwapCell(0), Edit::Remove]);
+    }
+    edits
+}
+
+/// Whether kind and flags are such as are not refused; those of a sheet stand in the sheet.
+fn is_taken(row: &Row) -> bool {
+    let among = |words: &[&str], column: usize| words.contains(&row.cells[column].as_str());
+    let kind = among(&["1", "2", "3", "4", "5", "6", "–"], 2);
+    kind && among(&["0", "1", "2", "4", "5", "6", "–"], 3)
+}
+
+/// An ON and an OFF get the same list, and flags are mostly without effect, so kinds and flags
+/// become such as are refused, or such as are not; in a sheet that is read they show.
+fn kind_and_flags_edits(row: &Row) -> Vec<Edit> {
+    let mut edits = Vec::new();
+    if is_taken(row) {
+        edits.extend(cells(2, others(["0", "7"], &row.cells[2])));
+        edits.extend(cells(3, others(["3", "7", "8"], &row.cells[3])));
+    } else {
+        let right =
+            |column: usize| ["1", "2", "4"].map(|text| Edit::Cell(column, text.to_string()));
+        edits.extend(right(if row.cells[3] == "0" { 2 } else { 3 }));
+    }
+    if row.cells[1] == "read" && !row.cells[5].starts_with("refused") {
+        edits.extend(cells(2, numbers_moved(&row.cells[2])));
+        edits.extend(cells(3, numbers_moved(&row.cells[3])));
+    }
     edits
 }

@@ -101,8 +101,8 @@ fn number_row(row: &Row, words: &Presences) -> Result<NumberRow, Fault> {
     };
     let form = decimal(&row.cells[4]).filter(|&form| form < 8).map(|form| form as u8);
     let once = match row.cells[ONCE_COLUMN].as_str() {
-        "yes" => Some(true),
-        "no" => Some(false),
+        "once" => Some(true),
+        "any" => Some(false),
         _ => None,
     };
     Ok(NumberRow {

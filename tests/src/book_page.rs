@@ -66,11 +66,11 @@ impl Held {
             Held::Sheet => "Octets of the sheet||Say",
             Held::Numbers => {
                 "No.|Entry|Name|Shape|Form|Allowed values\
-                 |1 Access|2 START|3 STOP|4 ON|5 OFF|6 Interim|Once"
+                 |1 Access|2 START|3 STOP|4 ON|5 OFF|6 Interim|Often"
             }
             Held::Presence => "Presence|Absent|There",
             Held::Entries => "Entry|Place|Rule|Number|In words",
-            Held::Cases => "Case|Job|Kind|Flags|Area|Answer",
+            Held::Cases => "Case|Job|Kind|Flags|Area, or sheet|Answer",
         };
         head.split('|').collect()
     }

@@ -37,7 +37,8 @@ impl Breaks {
         } else if let Some(text) = between("where ", " is absent too") {
             Where::Absent(Number::of(&text)?)
         } else {
-            let text = between("where a plain ", " (Framed-Protocol) is there")?;
+            let text =
+                between("where a plain ", " (Framed-Protocol) is there, whatever its value")?;
             Where::There(Number::of(&text)?)
         };
         Some(Breaks { rule: decimal(rule)? as u32, at })

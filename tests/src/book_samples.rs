@@ -12,7 +12,8 @@ use crate::book_refusals::Job;
 /// Asks the second program.
 pub type Ask<'a> = &'a mut dyn FnMut(Probe) -> String;
 
-const CASES: usize = 10;
+/// The cases that the custodian gave; others follow them.
+const GIVEN_CASES: usize = 10;
 
 /// What these tables say otherwise than the second program, or than each other. Which
 /// questions are asked does not depend on the answers.
@@ -78,8 +79,8 @@ fn forms_without_a_row(page: &Page) -> Vec<Fault> {
     missing.map(fault).collect()
 }
 
-/// The area of a case: A, a dash for none, or octets.
-fn case_area(row: &Row, page: &Page) -> Option<Vec<u8>> {
+/// The area or the sheet of a case: A, a dash for none, or octets.
+fn case_octets(row: &Row, page: &Page) -> Option<Vec<u8>> {
     match row.cells[4].as_str() {
         "A" => octets(&page.area.cells[0]),
         "–" => Some(Vec::new()),
@@ -87,35 +88,48 @@ fn case_area(row: &Row, page: &Page) -> Option<Vec<u8>> {
     }
 }
 
+/// What a case asks, of each of its jobs; or the column that is not known. A sheet has its kind
+/// and flags in itself, and a dash stands for them.
+fn case_probes(row: &Row, page: &Page) -> Result<Vec<Probe>, usize> {
+    let octets = case_octets(row, page).ok_or(4_usize)?;
+    let column = |at: usize| row.cells[at].as_str();
+    if column(1) == "write" {
+        let wrong = [2, 3].into_iter().find(|&at| column(at) != "–");
+        let probe = Probe { job: Job::Write, room: AMPLE, payload: octets };
+        return wrong.map_or(Ok(vec![probe]), Err);
+    }
+    let octet = |at: usize| decimal(column(at)).and_then(|n| u8::try_from(n).ok()).ok_or(at);
+    let (kind, flags) = (octet(2)?, octet(3)?);
+    let area_job = |word| Job::of(word).filter(|&job| job != Job::Write).ok_or(1_usize);
+    let jobs: Vec<Job> = column(1).split(", ").map(area_job).collect::<Result<_, _>>()?;
+    Ok(jobs.into_iter().map(|job| probe_area(job, kind, flags, &octets)).collect())
+}
+
 fn case_row(row: &Row, at: usize, page: &Page, ask: Ask) -> Vec<Fault> {
-    let octet = |text: &str| decimal(text).and_then(|number| u8::try_from(number).ok());
-    let area_jobs = |word| Job::of(word).filter(|&job| job != Job::Write);
-    let jobs: Option<Vec<Job>> = row.cells[1].split(", ").map(area_jobs).collect();
-    let (jobs, kind, flags, area) =
-        match (jobs, octet(&row.cells[2]), octet(&row.cells[3]), case_area(row, page)) {
-            (Some(jobs), Some(kind), Some(flags), Some(area)) => (jobs, kind, flags, area),
-            (None, ..) => return vec![unknown(row, 1, Held::Cases)],
-            (_, None, ..) => return vec![unknown(row, 2, Held::Cases)],
-            (_, _, None, _) => return vec![unknown(row, 3, Held::Cases)],
-            _ => return vec![unknown(row, 4, Held::Cases)],
-        };
+    let probes = match case_probes(row, page) {
+        Ok(probes) => probes,
+        Err(column) => return vec![unknown(row, column, Held::Cases)],
+    };
+    let name = match at.checked_sub(GIVEN_CASES) {
+        None => format!("P{}", at + 1),
+        Some(behind) => format!("E{}", behind + 1),
+    };
     let mut faults = Vec::new();
-    if row.cells[0] != format!("P{}", at + 1) {
-        let what = format!("{} should be P{}", row.cells[0], at + 1);
+    if row.cells[0] != name {
+        let what = format!("{} should be {name}", row.cells[0]);
         faults.push(Fault { line: row.line, what });
     }
-    for job in jobs {
-        let answer = ask(probe_area(job, kind, flags, &area));
-        let what = format!("{}, {}", row.cells[0], job.word());
-        faults.extend(differ(row, &what, &row.cells[5], &answer));
+    for probe in probes {
+        let what = format!("{name}, {}", probe.job.word());
+        faults.extend(differ(row, &what, &row.cells[5], &ask(probe)));
     }
     faults
 }
 
 fn number_of_cases(page: &Page) -> Option<Fault> {
     let table = page.table(Held::Cases);
-    let what = format!("the table has {} cases and not {CASES}", table.rows.len());
-    (table.rows.len() != CASES).then_some(Fault { line: table.line, what })
+    let what = format!("the table has {} cases and not {GIVEN_CASES}", table.rows.len());
+    (table.rows.len() < GIVEN_CASES).then_some(Fault { line: table.line, what })
 }
 
 /// How many octets a row of the whole sheet has, and its first place: 0 to 2; 3, 4.

@@ -10,7 +10,7 @@ pub const LONGEST_AREA: usize = 4076;
 // The longest sheet that reading makes: nine octets, and two for each of the area's.
 pub const LONGEST_SHEET: usize = 8161;
 
-// The longest list: three entries for each of 2,038 attributes, and twelve at the end.
+// No list is longer: at most three entries for each of 2,038 attributes, and twelve at the end.
 pub const LONGEST_LIST: usize = 6126;
 
 // A refusal of the book: its number and its second number.
