@@ -64,7 +64,10 @@ fn records(batch: &[u8]) -> Vec<(char, &[u8])> {
     let mut records = Vec::new();
     while rest.len() >= 9 {
         let length = u32::from_be_bytes([rest[5], rest[6], rest[7], rest[8]]) as usize;
-        let Some(payload) = rest.get(9..9 + length) else { break };
+        let payload = match rest.get(9..9 + length) {
+            Some(payload) => payload,
+            None => break,
+        };
         records.push((char::from(rest[0]), payload));
         rest = &rest[9 + length..];
     }

@@ -21,7 +21,10 @@ fn payloads(batch: &[u8]) -> Vec<&[u8]> {
 
 fn main() -> io::Result<()> {
     let words: Vec<String> = env::args().skip(1).collect();
-    let [batch, folder] = &words[..] else { panic!("payloads BATCH FOLDER") };
+    let (batch, folder) = match &words[..] {
+        [batch, folder] => (batch, folder),
+        _ => panic!("payloads BATCH FOLDER"),
+    };
     let batch = fs::read(batch)?;
     let payloads = payloads(&batch);
     for (number, payload) in payloads.iter().enumerate() {
