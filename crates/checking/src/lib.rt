@@ -121,7 +121,7 @@ fn barred(codes: &[u8], kind: u32, flags: u32, number: u16) -> bool
     (kind <= 5) & is_listed_3gpp(number)
 }
 
-// The Acct-Status-Type of a kind; 0 for a kind that has none.
+// The Acct-Status-Type that a kind of accounting has.
 fn status_of(kind: u32) -> u32
     requires { ⌜ (2 ≤ kind) × (kind ≤ 6) ⌝ }
     ensures { λ r. ⌜ r ≡ statusOf kind ⌝ }

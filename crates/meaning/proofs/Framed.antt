@@ -107,7 +107,7 @@ checks kind flags area = checkAnswer (comes kind flags) area 0
 abbrev writes : List ℕ → Answer Written
 writes sheet = writeAnswer sheet 0
 
--- "order for read and check", each refusal where the later ones would apply too
+-- "order for read and check": refusals, but for 8, where later ones would apply too
 pub area-order :
     (reads 0 3 (replicate 4077 0) ≡ refused 1 0) × (reads 1 3 (replicate 4077 0) ≡ refused 2 0)
     × (reads 1 0 (replicate 4077 0) ≡ refused 3 4077) × (reads 1 0 (0 ∷ 2 ∷ 26 ∷ 1 ∷ 4 ∷ []) ≡ refused 5 2)
@@ -116,7 +116,7 @@ pub area-order :
 unfolding computing
 area-order = (refl, refl, refl, refl, refl, refl, refl, refl, refl)
 
--- the order for writing, each refusal where the later ones would apply too
+-- the order for writing: refusals, but for 24, where later ones would apply too
 pub sheet-order :
     (writes (0 ∷ front ++ 7 ∷ 3 ∷ 0 ∷ 1 ∷ []) ≡ refused 20 0) × (writes (front ++ 7 ∷ 0 ∷ 0 ∷ 1 ∷ []) ≡ refused 21 0)
     × (writes (front ++ 1 ∷ 0 ∷ 0 ∷ 2 ∷ 0 ∷ 0 ∷ 0 ∷ 0 ∷ 0 ∷ 0 ∷ 9 ∷ 1 ∷ []) ≡ refused 22 13)
