@@ -1,14 +1,15 @@
-// The presence table: a code for each kind and plain number, kinds 1 to 6 in order, 256 numbers each.
+// The presence table: a code for each kind and plain number, kinds 1 to 6 in order, 256 numbers each. What is not 0 has its kind and
+// number behind it.
 //
 //     0 nothing is said   1 mandatory   2 not permitted   3 not permitted without flag 4   4 the same, and wanted with flag 4
 //     5 wanted with flag 1   6 wanted with flag 2   7 wanted where 32 is absent
 
 pub const ACCESS_REQUEST: [u8; 256] = [
     0,
-    1,
-    5,
-    6,
-    7,
+    1, // ACCESS_REQUEST 1
+    5, // ACCESS_REQUEST 2
+    6, // ACCESS_REQUEST 3
+    7, // ACCESS_REQUEST 4
     0,
     0,
     0,
@@ -34,7 +35,7 @@ pub const ACCESS_REQUEST: [u8; 256] = [
     0,
     0,
     0,
-    1,
+    1, // ACCESS_REQUEST 30
     0,
     0,
     0,
@@ -64,7 +65,7 @@ pub const ACCESS_REQUEST: [u8; 256] = [
     0,
     0,
     0,
-    6,
+    6, // ACCESS_REQUEST 60
     0,
     0,
     0,
@@ -265,35 +266,13 @@ pub const ACCESS_REQUEST: [u8; 256] = [
 pub const START: [u8; 256] = [
     0,
     0,
-    2,
-    2,
-    7,
+    2, // START 2
+    2, // START 3
+    7, // START 4
     0,
     0,
     0,
-    1,
-    0,
-    0,
-    0,
-    0,
-    0,
-    0,
-    0,
-    0,
-    0,
-    2,
-    0,
-    0,
-    0,
-    0,
-    0,
-    2,
-    4,
-    0,
-    0,
-    0,
-    0,
-    1,
+    1, // START 8
     0,
     0,
     0,
@@ -303,11 +282,33 @@ pub const START: [u8; 256] = [
     0,
     0,
     0,
-    1,
+    2, // START 18
     0,
     0,
     0,
-    1,
+    0,
+    0,
+    2, // START 24
+    4, // START 25
+    0,
+    0,
+    0,
+    0,
+    1, // START 30
+    0,
+    0,
+    0,
+    0,
+    0,
+    0,
+    0,
+    0,
+    0,
+    1, // START 40
+    0,
+    0,
+    0,
+    1, // START 44
     0,
     0,
     0,
@@ -524,35 +525,13 @@ pub const START: [u8; 256] = [
 pub const STOP: [u8; 256] = [
     0,
     0,
-    2,
-    2,
-    7,
+    2, // STOP 2
+    2, // STOP 3
+    7, // STOP 4
     0,
     0,
     0,
-    1,
-    0,
-    0,
-    0,
-    0,
-    0,
-    0,
-    0,
-    0,
-    0,
-    2,
-    0,
-    0,
-    0,
-    0,
-    0,
-    2,
-    3,
-    0,
-    0,
-    0,
-    0,
-    1,
+    1, // STOP 8
     0,
     0,
     0,
@@ -562,11 +541,33 @@ pub const STOP: [u8; 256] = [
     0,
     0,
     0,
-    1,
+    2, // STOP 18
     0,
     0,
     0,
-    1,
+    0,
+    0,
+    2, // STOP 24
+    3, // STOP 25
+    0,
+    0,
+    0,
+    0,
+    1, // STOP 30
+    0,
+    0,
+    0,
+    0,
+    0,
+    0,
+    0,
+    0,
+    0,
+    1, // STOP 40
+    0,
+    0,
+    0,
+    1, // STOP 44
     0,
     0,
     0,
@@ -783,9 +784,9 @@ pub const STOP: [u8; 256] = [
 pub const ON: [u8; 256] = [
     0,
     0,
-    2,
-    2,
-    7,
+    2, // ON 2
+    2, // ON 3
+    7, // ON 4
     0,
     0,
     0,
@@ -799,13 +800,13 @@ pub const ON: [u8; 256] = [
     0,
     0,
     0,
-    2,
+    2, // ON 18
     0,
     0,
     0,
     0,
     0,
-    2,
+    2, // ON 24
     0,
     0,
     0,
@@ -1042,9 +1043,9 @@ pub const ON: [u8; 256] = [
 pub const OFF: [u8; 256] = [
     0,
     0,
-    2,
-    2,
-    7,
+    2, // OFF 2
+    2, // OFF 3
+    7, // OFF 4
     0,
     0,
     0,
@@ -1058,13 +1059,13 @@ pub const OFF: [u8; 256] = [
     0,
     0,
     0,
-    2,
+    2, // OFF 18
     0,
     0,
     0,
     0,
     0,
-    2,
+    2, // OFF 24
     0,
     0,
     0,
@@ -1301,35 +1302,13 @@ pub const OFF: [u8; 256] = [
 pub const INTERIM_UPDATE: [u8; 256] = [
     0,
     0,
-    2,
-    2,
-    7,
+    2, // INTERIM_UPDATE 2
+    2, // INTERIM_UPDATE 3
+    7, // INTERIM_UPDATE 4
     0,
     0,
     0,
-    1,
-    0,
-    0,
-    0,
-    0,
-    0,
-    0,
-    0,
-    0,
-    0,
-    2,
-    0,
-    0,
-    0,
-    0,
-    0,
-    2,
-    3,
-    0,
-    0,
-    0,
-    0,
-    1,
+    1, // INTERIM_UPDATE 8
     0,
     0,
     0,
@@ -1339,11 +1318,33 @@ pub const INTERIM_UPDATE: [u8; 256] = [
     0,
     0,
     0,
-    1,
+    2, // INTERIM_UPDATE 18
     0,
     0,
     0,
-    1,
+    0,
+    0,
+    2, // INTERIM_UPDATE 24
+    3, // INTERIM_UPDATE 25
+    0,
+    0,
+    0,
+    0,
+    1, // INTERIM_UPDATE 30
+    0,
+    0,
+    0,
+    0,
+    0,
+    0,
+    0,
+    0,
+    0,
+    1, // INTERIM_UPDATE 40
+    0,
+    0,
+    0,
+    1, // INTERIM_UPDATE 44
     0,
     0,
     0,
