@@ -162,8 +162,8 @@ number-invented b keeps c area buffer l a n said =
     let e : checking.List n ≡ checking.List (length l) = sym said ∙ listed .says in
     cc
 
--- P4 and P5: the empty area in kinds 1 and 4 has three entries and one
-p4-p5 : (length (listOf (comes 1 0) []) ≡ 3) × (length (listOf (comes 4 0) []) ≡ 1)
+-- P4 and P5: the empty area in kinds 1 and 4 has three entries and two
+p4-p5 : (length (listOf (comes 1 0) []) ≡ 3) × (length (listOf (comes 4 0) []) ≡ 2)
 unfolding computing
 p4-p5 = (refl, refl)
 

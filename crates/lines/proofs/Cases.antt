@@ -22,7 +22,7 @@ pub refused-3 :
 unfolding refusalLine decimal decimalIn
 refused-3 = refl
 
--- `00641A08`: P2
+-- `00641A08`: the first of P2
 pub entry-p2 : entryWith 10 6560264 ≡ 48 ∷ 48 ∷ 54 ∷ 52 ∷ 49 ∷ 65 ∷ 48 ∷ 56 ∷ 10 ∷ []
 unfolding entryWith entryDigits octetsOf unpack text
 entry-p2 = refl

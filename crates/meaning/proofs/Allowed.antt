@@ -95,16 +95,19 @@ late kind flags l = ends kind flags (1 ∷ 8 ∷ 30 ∷ 40 ∷ 44 ∷ l)
 abbrev matter : (kind flags : ℕ) (present : List ℕ) → List ℕ
 matter kind flags l = those (λ n. not (same (late kind flags (n ∷ l)) (late kind flags l))) 512
 
--- what rule 6 asks for in kinds 2, 3, 6, and the PDP type
+-- what rule 6 asks for in kinds 2, 3, 6 and in kinds 4, 5, and the PDP type
 abbrev session : List ℕ
 session = map (λ n. entry 9 6 n) (8 ∷ 30 ∷ 40 ∷ 44 ∷ [])
+
+abbrev status : List ℕ
+status = entry 9 6 40 ∷ []
 
 abbrev asked : List ℕ
 asked = entry 9 7 (gpp 3) ∷ []
 
 -- rule 6, all else being there
 pub lacked : map (λ kind. ends kind 0 (4 ∷ [])) kinds ≡
-    (entry 9 6 1 ∷ entry 9 6 30 ∷ []) ∷ session ∷ session ∷ [] ∷ [] ∷ session ∷ []
+    (entry 9 6 1 ∷ entry 9 6 30 ∷ []) ∷ session ∷ session ∷ status ∷ status ∷ session ∷ []
 unfolding computing
 lacked = refl
 

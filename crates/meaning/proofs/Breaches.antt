@@ -8,7 +8,7 @@ use native.Mathlib.Omega.{arith}
 use lib.Dec.{T, eqb, ltb, eqb→eq, T-not, not-T}
 use lib.ListN.{length}
 use borrow.Author.Tests.{ltb-true}
-use Rattle.meaning.specs.Octets.{isIn}
+use Rattle.meaning.specs.Octets.{isIn, between, all}
 use Rattle.meaning.specs.Jobs.{pap, chap, class, Context}
 use Rattle.meaning.specs.Framing.{gpp, Attribute, walk}
 use Rattle.meaning.specs.Sheet.{typeOf, subOf}
@@ -105,11 +105,17 @@ module _ (c : Context) (l : List Attribute) (n : ℕ) where
 pub demanded-among : (c : Context) (n : ℕ) → T (mandatory c n) → Among n demandable
 unfolding mandatory
 demanded-among c n t =
-    let request = isIn n (1 ∷ 30 ∷ []) in
-    let session = isIn n (8 ∷ 30 ∷ 40 ∷ 44 ∷ []) in
-    ⊎-elim (λ u. in-within n (1 ∷ 30 ∷ []) demandable tt (parts (eqb (c .kind) 1) request u .1))
-    (λ u. in-within n (8 ∷ 30 ∷ 40 ∷ 44 ∷ []) demandable tt (parts (isSession (c .kind)) session u .1))
-    (either (eqb (c .kind) 1 && request) (isSession (c .kind) && session) t)
+    let request = eqb (c .kind) 1 && isIn n (1 ∷ 30 ∷ []) in
+    let session = isSession (c .kind) && isIn n (8 ∷ 30 ∷ 40 ∷ 44 ∷ []) in
+    let status = between 4 5 (c .kind) && isIn n (40 ∷ []) in
+    ⊎-elim (line (eqb (c .kind) 1) (1 ∷ 30 ∷ []) tt)
+    (λ u.
+    ⊎-elim (line (isSession (c .kind)) (8 ∷ 30 ∷ 40 ∷ 44 ∷ []) tt) (line (between 4 5 (c .kind)) (40 ∷ []) tt) (either session status u))
+    (either request (session || status) t)
+  where
+    -- by one line: of a kind and the numbers that it names
+    line : (ofKind : Bool) (l : List ℕ) → T (all (λ m. isIn m demandable) l) → T (ofKind && isIn n l) → Among n demandable
+    line ofKind l f u = in-within n l demandable f (parts ofKind (isIn n l) u .1)
 
 module _ (n : ℕ) where
   -- by one of the wantable numbers, and by a line of a kind and a flag that names some of them

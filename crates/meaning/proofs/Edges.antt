@@ -241,7 +241,7 @@ lists =
     ∷ asks (attributeOctets 1 [] ++ attributeOctets (gpp 1) (0x31 ∷ []) ++ attributeOctets 1 (66 ∷ [])) (entry 12 1 1 ∷ entry 12 3 1 ∷ entry 23 3 1 ∷ [])
     ∷ record { kind = 1; flags = 1; area = []; says = entry 0 6 1 ∷ entry 0 6 30 ∷ entry 0 7 2 ∷ entry 0 7 4 ∷ [] }
     ∷ record { kind = 1; flags = 6; area = attributeOctets 7 (four 7); says = entry 6 6 1 ∷ entry 6 6 30 ∷ entry 6 7 3 ∷ entry 6 7 4 ∷ entry 6 7 (gpp 3) ∷ entry 6 7 60 ∷ [] }
-    ∷ record { kind = 5; flags = 6; area = attributeOctets 7 (four 7) ++ attributeOctets 32 (65 ∷ []); says = [] }
+    ∷ record { kind = 5; flags = 6; area = attributeOctets 7 (four 7) ++ attributeOctets 32 (65 ∷ []); says = entry 9 6 40 ∷ [] }
     ∷ counts 2 0 1 [] []
     ∷ counts 2 4 1 [] (entry 39 7 25 ∷ [])
     ∷ counts 2 4 1 (attributeOctets 25 (1 ∷ [])) []

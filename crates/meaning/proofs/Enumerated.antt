@@ -94,7 +94,8 @@ barred-with = refl
 -- rule 6, kinds 1 to 6
 pub must-be-there :
     map (λ kind. those (demands kind) 512) kinds
-    ≡ (1 ∷ 30 ∷ []) ∷ (8 ∷ 30 ∷ 40 ∷ 44 ∷ []) ∷ (8 ∷ 30 ∷ 40 ∷ 44 ∷ []) ∷ [] ∷ [] ∷ (8 ∷ 30 ∷ 40 ∷ 44 ∷ []) ∷ []
+    ≡ (1 ∷ 30 ∷ []) ∷ (8 ∷ 30 ∷ 40 ∷ 44 ∷ []) ∷ (8 ∷ 30 ∷ 40 ∷ 44 ∷ [])
+    ∷ (40 ∷ []) ∷ (40 ∷ []) ∷ (8 ∷ 30 ∷ 40 ∷ 44 ∷ []) ∷ []
 unfolding computing
 must-be-there = refl
 

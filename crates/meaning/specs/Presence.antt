@@ -23,10 +23,11 @@ asksClass kind n = isSession kind && eqb n 25
 unfoldable pub notPermitted : Context → (number : ℕ) → Bool
 notPermitted c n = neverHere (c .kind) n || (asksClass (c .kind) n && not (class (c .flags)))
 
--- rule 6: "mandatory", of an Access-Request and of a session's accounting; ON and OFF ask for nothing
+-- rule 6: "mandatory", of an Access-Request, of a session's accounting, and of ON and OFF (request 1: "Make 40 mandatory in kinds")
 unfoldable pub mandatory : Context → (number : ℕ) → Bool
 mandatory c n =
-    (eqb (c .kind) 1 && isIn n (1 ∷ 30 ∷ [])) || (isSession (c .kind) && isIn n (8 ∷ 30 ∷ 40 ∷ 44 ∷ []))
+    (eqb (c .kind) 1 && isIn n (1 ∷ 30 ∷ []))
+    || ((isSession (c .kind) && isIn n (8 ∷ 30 ∷ 40 ∷ 44 ∷ [])) || (between 4 5 (c .kind) && isIn n (40 ∷ [])))
 
 -- rule 7: "Kind 1: 2 with flag 1"
 abbrev pub withPap : (kind number : ℕ) → Bool

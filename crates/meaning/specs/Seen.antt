@@ -44,14 +44,14 @@ asked job kind flags area says = record { job = job; kind = kind; flags = flags;
 abbrev pub both : (flags : ℕ) (area : List ℕ) (says : Answer (List ℕ)) → List Case
 both flags area says = asked read 1 flags area says ∷ asked check 1 flags area says ∷ []
 
--- P1 to P5, then P6 to P10
+-- P1 to P5, of which request 1 amends P2 and P5, then P6 to P10
 abbrev pub cases : List Case
 cases =
     asked read 4 0 areaA (given sheetA)
-    ∷ asked check 4 0 areaA (given (0x00641A08 ∷ []))
+    ∷ asked check 4 0 areaA (given (0x00641A08 ∷ 0x01362800 ∷ []))
     ∷ asked check 3 0 areaA (given (0x01360800 ∷ 0x01361E00 ∷ 0x01362800 ∷ 0x01362C00 ∷ []))
     ∷ asked check 1 0 [] (given (0x00060100 ∷ 0x00061E00 ∷ 0x00070400 ∷ []))
-    ∷ asked check 4 0 [] (given (0x00070400 ∷ []))
+    ∷ asked check 4 0 [] (given (0x00062800 ∷ 0x00070400 ∷ []))
     ∷ both 0 (0x04 ∷ []) (refused 4 0)
     ++ both 0 (0x04 ∷ 0x01 ∷ []) (refused 5 0)
     ++ both 0 (0x1A ∷ 0x07 ∷ []) (refused 6 0)

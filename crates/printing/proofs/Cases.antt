@@ -1,6 +1,7 @@
 -- What is printed, computed. Assumes nothing.
 use mathlib.Core.Path.{_≡_, refl}
-use mathlib.Core.List.{[], _∷_}
+use mathlib.Core.List.{List, [], _∷_}
+use Prim.Native.Nat.{ℕ}
 use Rattle.meaning.specs.Seen.{areaA, sheetA}
 use Rattle.meaning.proofs.Computing.{computing}
 use Rattle.lines.specs.Lines.{decimalIn, decimal, entryDigits, entryWith, entriesWith, refusalLine, secondTold}
@@ -35,11 +36,15 @@ pub prints-short : readPrinted (1 ∷ []) 1 8161 ≡ 115 ∷ 104 ∷ 111 ∷ 114
 unfolding readShown
 prints-short = refl
 
+-- an ON with a NAS-IP-Address and its status, which breaks nothing
+abbrev cleanOn : List ℕ
+cleanOn = 4 ∷ 0 ∷ 4 ∷ 6 ∷ 10 ∷ 0 ∷ 0 ∷ 1 ∷ 40 ∷ 6 ∷ 0 ∷ 0 ∷ 0 ∷ 7 ∷ []
+
 -- an empty list: nothing by the program, an empty line in a batch
-pub prints-nothing : checkPrinted (4 ∷ 0 ∷ 4 ∷ 6 ∷ 10 ∷ 0 ∷ 0 ∷ 1 ∷ []) 8 6126 ≡ []
+pub prints-nothing : checkPrinted cleanOn 14 6126 ≡ []
 unfolding computing checkShown shownAs entriesWith
 prints-nothing = refl
 
-pub line-empty : recordLine 67 (4 ∷ 0 ∷ 4 ∷ 6 ∷ 10 ∷ 0 ∷ 0 ∷ 1 ∷ []) 8 6126 ≡ 10 ∷ []
+pub line-empty : recordLine 67 cleanOn 14 6126 ≡ 10 ∷ []
 unfolding computing recordLine checkShown shownAs listLine
 line-empty = refl
