@@ -1,4 +1,5 @@
-//! Breaches: the seven rules, each line of document 01 written out.
+//! Breaches: the seven rules, each line of document 01 written out; rule 6 as request 1
+//! of document 02 amends it.
 //!
 //! The list is a set of entries: what two clauses of a rule say of one attribute is
 //! therefore one breach, and the list comes out rising.
@@ -140,14 +141,14 @@ fn excluded(case: &Case) -> Vec<Number> {
     }
 }
 
-/// Rule 6: mandatory and absent. ON and OFF want nothing.
+/// Rule 6: mandatory and absent. ON and OFF want their status, 40, and no session id.
 fn mandatory(case: &Case) -> Vec<Number> {
     let wanted: &[u8] = if case.kind == ACCESS_REQUEST {
         &[1, 30]
     } else if is_session_accounting(case.kind) {
         &[8, 30, 40, 44]
     } else {
-        &[]
+        &[40]
     };
     let wanted = wanted.iter().map(|&attribute_type| Plain(attribute_type));
     wanted.filter(|&number| absent(case, number)).collect()

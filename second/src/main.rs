@@ -1,4 +1,5 @@
-//! The second program: document 01 once more, told by its definitions.
+//! The second program: document 01 once more, with request 1 of document 02, told by
+//! its definitions.
 //!
 //! Standard input is read in full as a batch of records; standard output gets
 //! one line a record.

@@ -1,10 +1,15 @@
-//! P1 to P10 of document 01, and the corners of the batch format.
+//! P1 to P10 of document 01, P2 and P5 as request 1 of document 02 amends them, and the
+//! corners of the batch format.
 
 use crate::ask::{check, line, octets, output, read, record, write, ROOMY};
 use crate::tally::Tally;
 
 const A: &str = "04 06 0A 00 00 01 1A 0D 00 00 28 AF 08 07 30 30 31 30 31";
 const SHEET_OF_A: &str = "474952000104000002040003040A0000011A08040500101F";
+/// The list of A in kind 4.
+const LIST_OF_A: &str = "00641A08 01362800";
+/// An ON without a breach.
+const CLEAN_ON: &str = "04 00 04 06 00 00 00 00 28 06 00 00 00 07";
 
 pub fn run(tally: &mut Tally) {
     seen_at_the_desk(tally);
@@ -15,11 +20,11 @@ pub fn run(tally: &mut Tally) {
 
 fn seen_at_the_desk(tally: &mut Tally) {
     tally.line("P1", read(&format!("04 00 {}", A)), SHEET_OF_A);
-    tally.line("P2", check(&format!("04 00 {}", A)), "00641A08");
+    tally.line("P2", check(&format!("04 00 {}", A)), LIST_OF_A);
     let four = "01360800 01361E00 01362800 01362C00";
     tally.line("P3", check(&format!("03 00 {}", A)), four);
     tally.line("P4", check("01 00"), "00060100 00061E00 00070400");
-    tally.line("P5", check("04 00"), "00070400");
+    tally.line("P5", check("04 00"), "00062800 00070400");
     let refused = [
         ("P6", "01 00 04", "refused 4 0"),
         ("P7", "01 00 04 01", "refused 5 0"),
@@ -42,29 +47,30 @@ fn batch_lines(tally: &mut Tally) {
     tally.line("read of nothing", read(""), "short");
     tally.line("read of a kind alone", read("01"), "short");
     tally.line("write knows no short", write(""), "refused 20 0");
-    tally.line("empty list", check("04 00 04 06 00 00 00 00"), "");
+    tally.line("empty list", check(CLEAN_ON), "");
     tally.line("empty area read", read("01 00"), "474952000101000000");
     tally.line("empty area written", write("47 49 52 00 01 01 00 00 00"), "1 0 ");
     tally.line("flags in decimal", write("47 49 52 00 01 06 06 00 00"), "6 6 ");
     tally.line("no record", output(b""), "");
-    let mut both = record(b'C', ROOMY, &octets("04 00 04 06 00 00 00 00"));
+    let mut both = record(b'C', ROOMY, &octets(CLEAN_ON));
     both.extend(record(b'W', ROOMY, b""));
     both.extend(record(b'C', ROOMY, &octets("04 00")));
-    tally.line("lines in order", output(&both), "\nrefused 20 0\n00070400\n");
+    tally.line("lines in order", output(&both), "\nrefused 20 0\n00062800 00070400\n");
 }
 
 fn batch_rooms(tally: &mut Tally) {
     let payload = octets(&format!("04 00 {}", A));
     let sheet = octets(SHEET_OF_A);
-    tally.line("room for the list", line(b'C', 1, &payload), "00641A08");
-    tally.line("no room for the list", line(b'C', 0, &payload), "refused 10 1");
+    tally.line("room for the list", line(b'C', 2, &payload), LIST_OF_A);
+    tally.line("no room for the list", line(b'C', 1, &payload), "refused 10 2");
+    tally.line("no room at all", line(b'C', 0, &payload), "refused 10 2");
     tally.line("room for the sheet", line(b'R', 24, &payload), SHEET_OF_A);
     tally.line("no room for the sheet", line(b'R', 23, &payload), "refused 9 24");
     let back = "4 0 04060A0000011A0D000028AF08073030313031";
     tally.line("room for the area", line(b'W', 19, &sheet), back);
     tally.line("no room for the area", line(b'W', 18, &sheet), "refused 25 19");
-    tally.line("greatest room", line(b'C', u32::MAX, &payload), "00641A08");
-    tally.line("an empty list wants no room", line(b'C', 0, &octets("04 00 20 03 41")), "");
+    tally.line("greatest room", line(b'C', u32::MAX, &payload), LIST_OF_A);
+    tally.line("an empty list wants no room", line(b'C', 0, &octets(CLEAN_ON)), "");
     tally.line("room is in entries", line(b'C', 3, &[1, 0]), "00060100 00061E00 00070400");
     tally.line("entries needed", line(b'C', 2, &[1, 0]), "refused 10 3");
 }
@@ -78,7 +84,7 @@ fn batch_broken(tally: &mut Tally) {
         tally.line("record cut short", got, "broken 0\n");
         let mut second = good.clone();
         second.extend(&good[..cut]);
-        tally.line("second record cut", output(&second), "00070400\nbroken 1\n");
+        tally.line("second record cut", output(&second), "00062800 00070400\nbroken 1\n");
     }
     let mut far = b"R\0\0\0\x01".to_vec();
     far.extend([0xFF; 4]);
@@ -87,5 +93,5 @@ fn batch_broken(tally: &mut Tally) {
     let mut ended = good.clone();
     ended.extend(record(b'Z', 0, b""));
     ended.extend(&good);
-    tally.line("nothing after a broken one", output(&ended), "00070400\nbroken 1\n");
+    tally.line("nothing after a broken one", output(&ended), "00062800 00070400\nbroken 1\n");
 }

@@ -1,7 +1,12 @@
-//! Hand-written edge cases of breaches, rule by rule.
+//! Hand-written edge cases of breaches, rule by rule, and of request 1 of document 02.
 
 use crate::ask::{check, gpp, line, octets, plain, ROOMY};
 use crate::tally::Tally;
+
+/// ON and OFF, each with the value its status must have.
+const ON_AND_OFF: [(u8, u32); 2] = [(4, 7), (5, 8)];
+/// A 32, so that an ON or OFF wants its status only.
+const NAS: &str = "20 03 41";
 
 pub fn run(tally: &mut Tally) {
     shapes_checked(tally);
@@ -10,6 +15,12 @@ pub fn run(tally: &mut Tally) {
     repeats(tally);
     permitted(tally);
     at_the_end(tally);
+    status_wanted(tally);
+    status_present(tally);
+    status_again(tally);
+    status_elsewhere(tally);
+    status_in_order(tally);
+    status_in_other_kinds(tally);
 }
 
 /// A check whose list is shown without the entries that stand at the area's end.
@@ -21,6 +32,16 @@ fn list_within(kind: u8, flags: u8, area: &str) -> String {
     let list = line(b'C', ROOMY, &payload);
     let within: Vec<&str> = list.split(' ').filter(|entry| !entry.starts_with(&end)).collect();
     within.join(" ")
+}
+
+/// An Acct-Status-Type in hexadecimal.
+fn status(value: u32) -> String {
+    format!("28 06 {:08X}", value)
+}
+
+/// A check with flags 0, its whole list.
+fn list(kind: u8, area: &str) -> String {
+    check(&format!("{:02X} 00 {}", kind, area))
 }
 
 fn shapes_checked(tally: &mut Tally) {
@@ -161,16 +182,16 @@ fn at_the_end(tally: &mut Tally) {
     tally.line(
         "rule 5 in kind 1 only",
         check(&format!("04 00 {}", both)),
-        "00010200 00040200 00210300 00240300 00470400",
+        "00010200 00040200 00210300 00240300 00462800 00470400",
     );
-    tally.line("32 will do for 4", check("04 00 20 03 41"), "");
-    tally.line("a misshapen 4 is present", check("04 00 04 02"), "00010400");
+    tally.line("32 will do for 4", check("04 00 20 03 41 28 06 00 00 00 07"), "");
+    tally.line("a misshapen 4 is present", check("04 00 04 02"), "00010400 00262800");
     let clean = "01 03 41 1E 03 31 20 03 41";
     tally.line("clean request", check(&format!("01 00 {}", clean)), "");
     tally.line("PAP wants 2", check(&format!("01 01 {}", clean)), "00970200");
     tally.line("CHAP wants 3 and 60", check(&format!("01 02 {}", clean)), "00970300 00973C00");
     tally.line("a Class flag in kind 1", check(&format!("01 04 {}", clean)), "");
-    tally.line("flags in ON", check("04 06 20 03 41"), "");
+    tally.line("flags in ON", check("04 06 20 03 41 28 06 00 00 00 07"), "");
     let session = "08 06 00 00 00 00 1E 03 31 20 03 41 28 06 00 00 00";
     let id = plain(44, "0000000000000000");
     for (kind, status) in [(2, "01"), (3, "02"), (6, "03")] {
@@ -203,13 +224,132 @@ fn framed_protocol(tally: &mut Tally) {
         check(&format!("01 00 {}", short)),
         "00F11A03",
     );
-    for kind in [4, 5] {
-        let on = format!("{:02X} 00 20 03 41 07 06 00 00 00 07", kind);
-        tally.line("nothing wanted in ON and OFF", check(&on), "");
+    for (kind, own) in ON_AND_OFF {
+        let on = format!("{:02X} 00 20 03 41 07 06 00 00 00 07 {}", kind, status(own));
+        tally.line("3GPP 3 not wanted in ON and OFF", check(&on), "");
     }
     for kind in [2, 3, 6] {
         let area = format!("{:02X} 00 07 06 00 00 00 07", kind);
         let want = "00660800 00661E00 00662800 00662C00 00670400 00671A03";
         tally.line("3GPP 3 in a session", check(&area), want);
+    }
+}
+
+/// Request 1: 40 is mandatory in ON and OFF, and 44 is not.
+fn status_wanted(tally: &mut Tally) {
+    let id = plain(44, "0000000000000000");
+    let fifteen = format!("05FF{}", "11".repeat(253)).repeat(15);
+    let filler = format!("{} 05F8{}", fifteen, "11".repeat(246));
+    for (kind, own) in ON_AND_OFF {
+        let own = status(own);
+        tally.line("clean, no 44", list(kind, &format!("{} {}", NAS, own)), "");
+        tally.line("clean, status first", list(kind, &format!("{} {}", own, NAS)), "");
+        let whole = format!("04 06 0A 00 00 01 1E 03 31 {}", NAS);
+        tally.line("clean, 4, 30 and 32", list(kind, &format!("{} {}", whole, own)), "");
+        tally.line("clean, with 44", list(kind, &format!("{} {} {}", NAS, own, id)), "");
+        let misshapen = list(kind, &format!("{} {} 2C 02", NAS, own));
+        tally.line("44 keeps its shape", misshapen, "00912C00");
+        let twice = list(kind, &format!("{} {} {} {}", NAS, own, id, id));
+        tally.line("44 comes once", twice, "01B32C00");
+        tally.line("no status", list(kind, NAS), "00362800");
+        tally.line("no status, 4, 30 and 32", list(kind, &whole), "00C62800");
+        tally.line("no status, 44 there", list(kind, &format!("{} {}", NAS, id)), "01562800");
+        let longest = list(kind, &format!("{} {}", NAS, filler));
+        tally.line("no status in 4,076 octets", longest, "FEC62800");
+    }
+}
+
+/// A status that is wrong in value or shape is there all the same.
+fn status_present(tally: &mut Tally) {
+    for (kind, own) in ON_AND_OFF {
+        let of_other_kinds = [1, 2, 3, 7, 8].into_iter().filter(|&value| value != own);
+        for value in of_other_kinds.chain([0, 4, 5, 6, 9, 15, 255, u32::MAX]) {
+            let got = list(kind, &format!("{} {}", NAS, status(value)));
+            tally.line("a wrong status is rule 2 and there", got, "00322800");
+        }
+        for high in [0x0000_0100, 0x0001_0000, 0x0100_0000, 0x8000_0000] {
+            let got = list(kind, &format!("{} {}", NAS, status(high + own)));
+            tally.line("all four octets of the status count", got, "00322800");
+        }
+        for shift in [8, 16, 24] {
+            let got = list(kind, &format!("{} {}", NAS, status(own << shift)));
+            tally.line("the status stands in the last octet", got, "00322800");
+        }
+        let (three, five) = (format!("28 05 {:06X}", own), format!("28 07 {:010X}", own));
+        for misshapen in ["28 02", &format!("28 03 {:02X}", own), &three, &five] {
+            let got = list(kind, &format!("{} {}", NAS, misshapen));
+            tally.line("a misshapen status is rule 1 and there", got, "00312800");
+        }
+    }
+}
+
+/// A second status is rule 3, whatever the first one was.
+fn status_again(tally: &mut Tally) {
+    for (kind, right) in ON_AND_OFF {
+        let (right, wrong) = (status(right), status(1));
+        for (shows, statuses, want) in [
+            ("two right ones", [&right, &right], "00932800"),
+            ("a wrong one, then a right one", [&wrong, &right], "00322800 00932800"),
+            ("a right one, then a wrong one", [&right, &wrong], "00922800 00932800"),
+            ("two wrong ones", [&wrong, &wrong], "00322800 00922800 00932800"),
+        ] {
+            let area = format!("{} {} {}", NAS, statuses[0], statuses[1]);
+            tally.line(shows, list(kind, &area), want);
+        }
+        let misshapen = list(kind, &format!("{} 28 02 {}", NAS, right));
+        tally.line("a misshapen one, then a right one", misshapen, "00312800 00532800");
+        let apart = list(kind, &format!("{} {} {}", right, NAS, right));
+        tally.line("a status apart from the first", apart, "00932800");
+    }
+}
+
+/// A 40 inside a type 26 is no status.
+fn status_elsewhere(tally: &mut Tally) {
+    for (kind, own) in ON_AND_OFF {
+        let sub = format!("1A 0C 00 00 28 AF {}", status(own));
+        let other = format!("1A 0C 00 00 00 09 {}", status(own));
+        for (shows, inside) in [("3GPP 40", &sub), ("another vendor's 40", &other)] {
+            tally.line(shows, list(kind, &format!("{} {}", NAS, inside)), "00F62800");
+            let beside = list(kind, &format!("{} {} {}", NAS, inside, status(own)));
+            tally.line(shows, beside, "");
+        }
+        let wrong = list(kind, &format!("{} {}", NAS, gpp(40, "")));
+        tally.line("3GPP 40 has no shape", wrong, "00B62800");
+    }
+}
+
+/// The entry comes after those of rules 1 to 4 and before rule 7; flags add nothing.
+fn status_in_order(tally: &mut Tally) {
+    for (kind, own) in ON_AND_OFF {
+        for flags in [0, 1, 2, 4, 5, 6] {
+            let list = |area: &str| check(&format!("{:02X} {:02X} {}", kind, flags, area));
+            tally.line("empty", list(""), "00062800 00070400");
+            tally.line("clean", list(&format!("{} {}", NAS, status(own))), "");
+            tally.line("status alone", list(&status(own)), "00670400");
+            tally.line("32 alone", list(NAS), "00362800");
+            tally.line("7 wants nothing", list("07 06 00 00 00 07"), "00662800 00670400");
+            let both = "00010200 00040200 00210300 00240300 00462800 00470400";
+            tally.line("no rule 5 before it", list("02 02 03 02"), both);
+            tally.line("Class is permitted", list("19 03 41"), "00362800 00370400");
+            let location = format!("04 06 0A 00 00 01 {}", gpp(8, "00101"));
+            tally.line("rule 4 before it", list(&location), "00641A08 01362800");
+        }
+    }
+}
+
+/// Request 1 says nothing of the other kinds.
+fn status_in_other_kinds(tally: &mut Tally) {
+    let request = "01 03 41 1E 03 31 20 03 41";
+    tally.line("not wanted in kind 1", list(1, request), "");
+    tally.line("kind 1, empty", list(1, ""), "00060100 00061E00 00070400");
+    for value in [0, 1, 2, 3, 7, 8, 9, 255, 0x0100_0007, u32::MAX] {
+        let got = list(1, &format!("{} {}", request, status(value)));
+        tally.line("any value in kind 1", got, "");
+    }
+    let twice = list(1, &format!("{} {} {}", request, status(7), status(7)));
+    tally.line("kind 1, but once", twice, "00F32800");
+    for kind in [2, 3, 6] {
+        let want = "00060800 00061E00 00062800 00062C00 00070400";
+        tally.line("a session wants what it did", list(kind, ""), want);
     }
 }
