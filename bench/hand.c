@@ -443,6 +443,8 @@ static uint32_t *put_ends(uint32_t *to, uint32_t place, const uint8_t *seen, uin
         ENTRY(6, 30 << 8, lacks(seen, 30));
         ENTRY(6, 40 << 8, lacks(seen, 40));
         ENTRY(6, 44 << 8, lacks(seen, 44));
+    } else {
+        ENTRY(6, 40 << 8, lacks(seen, 40));
     }
     ENTRY(7, 4 << 8, lacks(seen, 4) & lacks(seen, 32));
     ENTRY(7, 25 << 8, (kind == 2) & class & lacks(seen, 25));

@@ -32,10 +32,10 @@ fn refuse(area: &[u8], kind: u32, flags: u32, number: u32, second: u64) {
 fn seen_at_the_desk() {
     let listed = |area: &[u8], kind| check(area, kind, 0, &mut [0; 8]).map(<[u32]>::to_vec);
     assert_eq!(sheet_of(&A, 4, 0), Ok(A_SHEET.to_vec()));
-    assert_eq!(listed(&A, 4), Ok(vec![0x00641A08]));
+    assert_eq!(listed(&A, 4), Ok(vec![0x00641A08, 0x01362800]));
     assert_eq!(listed(&A, 3), Ok(vec![0x01360800, 0x01361E00, 0x01362800, 0x01362C00]));
     assert_eq!(listed(&[], 1), Ok(vec![0x00060100, 0x00061E00, 0x00070400]));
-    assert_eq!(listed(&[], 4), Ok(vec![0x00070400]));
+    assert_eq!(listed(&[], 4), Ok(vec![0x00062800, 0x00070400]));
     refuse(&[0x04], 1, 0, 4, 0);
     refuse(&[0x04, 0x01], 1, 0, 5, 0);
     refuse(&[0x1A, 0x07], 1, 0, 6, 0);

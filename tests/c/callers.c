@@ -144,18 +144,18 @@ static const uint8_t a_sheet[] = {0x47, 0x49, 0x52, 0x00, 0x01, 0x04, 0x00, 0x00
 
 static void seen_at_the_desk(void)
 {
-    static const uint32_t p2[] = {0x00641A08};
+    static const uint32_t p2[] = {0x00641A08, 0x01362800};
     static const uint32_t p3[] = {0x01360800, 0x01361E00, 0x01362800, 0x01362C00};
     static const uint32_t p4[] = {0x00060100, 0x00061E00, 0x00070400};
-    static const uint32_t p5[] = {0x00070400};
+    static const uint32_t p5[] = {0x00062800, 0x00070400};
     static const uint8_t p6[] = {0x04}, p7[] = {0x04, 0x01}, p8[] = {0x1A, 0x07};
     static const uint8_t p9[] = {0x1A, 0x06, 0x00, 0x00, 0x28, 0xAF};
 
     reads("P1", a, sizeof a, 4, 0, SHEET_ROOM, a_sheet, sizeof a_sheet);
-    lists("P2", a, sizeof a, 4, 0, LIST_ROOM, p2, 1);
+    lists("P2", a, sizeof a, 4, 0, LIST_ROOM, p2, 2);
     lists("P3", a, sizeof a, 3, 0, LIST_ROOM, p3, 4);
     lists("P4", none, 0, 1, 0, LIST_ROOM, p4, 3);
-    lists("P5", none, 0, 4, 0, LIST_ROOM, p5, 1);
+    lists("P5", none, 0, 4, 0, LIST_ROOM, p5, 2);
     refuse("P6", p6, sizeof p6, 1, 0, GIR_LONE_OCTET, 0);
     refuse("P7", p7, sizeof p7, 1, 0, GIR_LENGTH_BELOW_2, 0);
     refuse("P8", p8, sizeof p8, 1, 0, GIR_PASSES_THE_END, 0);

@@ -34,8 +34,25 @@ fn areas() -> Vec<Vec<u8>> {
         [plain(3, &[0; 17]), plain(4, &[0; 4]), plain(2, &[0; 16])].concat(),
         [plain(2, b""), plain(32, b"n"), plain(3, b"")].concat(),
     ];
+    areas.extend(statuses());
     areas.extend(whole_messages());
     areas
+}
+
+/// All that an ON or OFF is asked for, with a status that is absent, right in one kind, of none, of
+/// another size, given twice, or the value of a sub-attribute that has its number.
+fn statuses() -> Vec<Vec<u8>> {
+    let mut areas = vec![
+        vec![],
+        plain(40, b""),
+        plain(40, &[0, 0, 7]),
+        plain(40, &[0, 0, 0, 8, 0]),
+        plain(40, &[7, 0, 0, 0]),
+        [plain(40, &[0, 0, 0, 7]), plain(40, &[0, 0, 0, 8])].concat(),
+        three_gpp(40, &[0, 0, 0, 7]),
+    ];
+    areas.extend([0, 1, 2, 3, 7, 8, 255].map(|status| plain(40, &[0, 0, 0, status])));
+    areas.iter().map(|status| [&plain(4, &[10, 0, 0, 1]), status.as_slice()].concat()).collect()
 }
 
 /// Each value at the bounds of what is allowed.

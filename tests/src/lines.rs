@@ -61,7 +61,7 @@ fn not_permitted_plain(kind: u8, flags: u8) -> &'static [u8] {
 fn mandatory(kind: u8) -> &'static [u8] {
     match kind {
         1 => &[1, 30],
-        4 | 5 => &[],
+        4 | 5 => &[40],
         _ => &[8, 30, 40, 44],
     }
 }
