@@ -1,19 +1,20 @@
 -- The demands on the desk, over its promises: what every answer that the promises permit is like. The words are those of
 -- specs/Calls.antt, the definitions those of crates/meaning/specs. From top to bottom: each promise admits one answer; demand 1, the
--- refusals; demand 2, reading, writing and both return trips; demand 3, the list. Assumes nothing.
+-- refusals; demand 2, reading, writing and both return trips; demand 3, the list; the requests. Assumes nothing.
 use mathlib.Core.Path.{_≡_, refl, sym, ap, _∙_}
-use mathlib.Core.Logic.{_↔_}
+use mathlib.Core.Logic.{_⊎_, _↔_}
 use mathlib.Core.List.{List}
 use Prim.Native.Nat.{ℕ, _≤_}
 use native.Mathlib.Omega.{arith}
+use lib.Dec.{T}
 use lib.ListN.{length, take}
 use borrow.Author.Tests.{le-ltb}
 use Rattle.meaning.specs.Versions.{current}
 use Rattle.meaning.specs.Jobs.{Context}
-use Rattle.meaning.specs.Framing.{WellFramed}
+use Rattle.meaning.specs.Framing.{WellFramed, walk, attributes}
 use Rattle.meaning.specs.Refusals.{none, areaRefusal}
 use Rattle.meaning.specs.Sheet.{versionIn, kindIn, flagsIn, areaIn, judged, Writable}
-use Rattle.meaning.specs.Breaches.{Among}
+use Rattle.meaning.specs.Breaches.{entry, Among, Absent}
 use Rattle.meaning.specs.Listing.{listOf}
 use Rattle.meaning.specs.Answers.{given, Written, readAnswer, checkAnswer, writeAnswer, areaAnswer}
 use Rattle.meaning.proofs.Walked.{framed-exactly}
@@ -21,7 +22,8 @@ use Rattle.meaning.proofs.Sheets.{Clear, clear, clear-read, written-exactly, sh
 use Rattle.meaning.proofs.Answers.{one-answer, read-exactly, check-given, written-back}
 use Rattle.meaning.proofs.Rising.{one-list}
 use Rattle.meaning.proofs.Placed.{list-lists}
-use Rattle.meaning.proofs.Entries.{Tells, one-telling, area-breach-tells}
+use Rattle.meaning.proofs.Presence.{status-alone}
+use Rattle.meaning.proofs.Entries.{canBreak, Tells, one-telling, area-breach-tells, lacks-exactly}
 use Rattle.desk.specs.declared.Answer as exported
 use Rattle.desk.specs.declared.Reading.{Reading}
 use Rattle.desk.specs.declared.Reading.the-variants as reading
@@ -176,3 +178,21 @@ entry-tells-breach k l lists e m = area-breach-tells (k .comes) (k .area) e (k .
 
 pub entry-tells-one : (e : ℕ) (t u : Tells e) → (t .place ≡ u .place) × (t .rule ≡ u .rule) × (t .number ≡ u .number)
 entry-tells-one = one-telling
+
+-- ---- Request 1: "Make 40 mandatory in kinds" 4 and 5
+
+-- In the list of an ON or OFF the entry of rule 6 for a number that can break a rule stands exactly where the number is 40 and no
+-- attribute carries it: no other is demanded, and a 40 is there whatever its value.
+pub status-demanded :
+    (k : CheckCall) → (k .comes .kind ≡ 4) ⊎ (k .comes .kind ≡ 5) → (l : List ℕ) → ListsBreaches k l → (n : ℕ) → T (canBreak n)
+    → Among (entry (length (k .area)) 6 n) l ↔ ((n ≡ 40) × Absent 40 (attributes (walk (k .area))))
+status-demanded k kind l lists n can =
+    let e = entry (length (k .area)) 6 n in
+    let exactly = lacks-exactly (k .comes) (k .area) n (k .octets) can in
+    let alone = status-alone (k .comes) kind n in (
+      λ m.
+          let b = exactly .0 (lists .exact e .0 m) in
+          let q = alone .0 (b .0) in
+          (q, rw q at (b .1)),
+      λ b. lists .exact e .1 (exactly .1 (alone .1 (b .0), rw (b .0) (b .1))),
+    )

@@ -1,7 +1,7 @@
 -- Two different breaches have different entries: an entry tells its place, rule and number, where the number can break a rule. The
 -- numbers that can are those that have a shape; a plain 26 cannot, whose entry would be that of 3GPP 0. Assumes nothing.
 use mathlib.Core.Path.{_≡_, refl, sym, _∙_}
-use mathlib.Core.Logic.{_⊎_, inl, inr, ⊎-elim}
+use mathlib.Core.Logic.{_⊎_, inl, inr, ⊎-elim, _↔_}
 use mathlib.Core.Bool.{Bool, true, false, cond, not, _&&_, _||_}
 use mathlib.Core.List.{List, [], _∷_}
 use Prim.Native.Nat.{ℕ, zero, suc, _+_, _*_, _-_, _≤_, _<_}
@@ -14,8 +14,8 @@ use Rattle.meaning.specs.Versions.{current}
 use Rattle.meaning.specs.Jobs.{class, Context}
 use Rattle.meaning.specs.Framing.{gpp, Attribute, walk, attributes}
 use Rattle.meaning.specs.Shapes.{shapeOf, meets, allowed}
-use Rattle.meaning.specs.Presence.{isSession, neverHere, asksClass, notPermitted}
-use Rattle.meaning.specs.Breaches.{entry, misses, offends, isListed3gpp, onceOnly, barred, Among}
+use Rattle.meaning.specs.Presence.{isSession, neverHere, asksClass, notPermitted, mandatory}
+use Rattle.meaning.specs.Breaches.{entry, misses, offends, isListed3gpp, onceOnly, barred, Among, Absent, After}
 use Rattle.meaning.specs.Breaches.{Wanted}
 use Rattle.meaning.specs.Breaches.{Breach, shape1, value2, again3, here4, both5, lacks6, wants7}
 use Rattle.meaning.specs.Listing.{put, demandable, wantable}
@@ -60,6 +60,11 @@ one-name n n' k k' e = go (ltb n 256) (ltb n' 256) refl refl e
     go false true q q' e = absurd (k' .1 (omega (arith, ltb-true)))
     go false false q q' e = omega (arith, ltb-false)
 
+-- An entry has one rule, also where its number breaks none.
+one-rule : (p r n p' r' n' : ℕ) → r ≤ 7 → r' ≤ 7 → n < 512 → n' < 512 → entry p r n ≡ entry p' r' n' → r ≡ r'
+unfolding entry
+one-rule p r n p' r' n' h h' k k' e = omega (arith, name-low n k, name-low n' k')
+
 -- An entry has one place, rule and number.
 pub one-breach : (p r n p' r' n' : ℕ) →
     r ≤ 7 → r' ≤ 7 → T (canBreak n) → T (canBreak n') → entry p r n ≡ entry p' r' n' → (p ≡ p') × (r ≡ r') × (n ≡ n')
@@ -70,7 +75,7 @@ one-breach p r n p' r' n' h h' t t' e =
     let low = name-low n (k .0) in
     let low' = name-low n' (k' .0) in
     let u : p ≡ p' = omega arith in
-    let v : r ≡ r' = omega arith in
+    let v : r ≡ r' = one-rule p r n p' r' n' h h' (k .0) (k' .0) e in
     (u, v, one-name n n' k k' (omega arith))
 
 -- ---- Every breach is such an entry
@@ -170,8 +175,14 @@ module _ (c : Context) (to : ℕ) (l : List Attribute) (placed : Placed 0 l to) 
   tells : (place rule number : ℕ) → 1 ≤ rule → rule ≤ 7 → T (canBreak number) → e ≡ entry place rule number → Tells e
   tells p r n least most can is = record { place = p; rule = r; number = n; least = least; most = most; can = can; is = is }
 
+  demanded-can : (n : ℕ) → T (mandatory c n) → T (canBreak n)
+  demanded-can n t = all-at canBreak demandable tt n (demanded-among c n t)
+
   wanted-can : (n : ℕ) → Wanted c l n → T (canBreak n)
   wanted-can n w = all-at canBreak wantable tt n (wanted-among n c l w)
+
+  after-low : (a : Attribute) (earlier : List Attribute) → After l a earlier → a .number < 512
+  after-low a earlier s = low 0 to l placed a (rw (s .whole) (among-right a earlier (a ∷ s .later) (inl refl)))
 
   pub breach-tells : Breach c to l e → Tells e
   unfolding misses offends
@@ -182,16 +193,44 @@ module _ (c : Context) (to : ℕ) (l : List Attribute) (placed : Placed 0 l to) 
       (offends-can c (a .number) (low 0 to l placed a m) (a .value) (parts (meets current (shapeOf (a .number)) (a .value)) _ t .1)) p
   breach-tells (again3 a earlier s t f p) =
       tells (a .place) 3 (a .number) (omega arith) (omega arith)
-      (once-can c (a .number) (low 0 to l placed a (rw (s .whole) (among-right a earlier (a ∷ s .later) (inl refl)))) t) p
+      (once-can c (a .number) (after-low a earlier s) t) p
   breach-tells (here4 a m t p) =
       tells (a .place) 4 (a .number) (omega arith) (omega arith) (barred-can c (a .number) (low 0 to l placed a m) t) p
   breach-tells (both5 q f g p) = tells to 5 3 (omega arith) (omega arith) tt p
-  breach-tells (lacks6 n t f p) =
-      tells to 6 n (omega arith) (omega arith) (all-at canBreak demandable tt n (demanded-among c n t)) p
+  breach-tells (lacks6 n t f p) = tells to 6 n (omega arith) (omega arith) (demanded-can n t) p
   breach-tells (wants7 n w f p) = tells to 7 n (omega arith) (omega arith) (wanted-can n w) p
+
+  -- an entry of rule 6 is that of a number which is mandatory and absent
+  lacking-alone : (n : ℕ) → T (canBreak n) → e ≡ entry to 6 n → Breach c to l e → T (mandatory c n) × Absent n l
+  lacking-alone n can is b = go b
+    where
+      ruled : (place rule number : ℕ) → rule ≤ 7 → number < 512 → e ≡ entry place rule number → rule ≡ 6
+      ruled p r m h k q = one-rule p r m to 6 n h (omega arith) k (can-known n can .0) (sym q ∙ is)
+
+      go : Breach c to l e → T (mandatory c n) × Absent n l
+      go (shape1 a m t p) = absurd (omega (arith, ruled (a .place) 1 (a .number) (omega arith) (low 0 to l placed a m) p))
+      go (value2 a m t p) = absurd (omega (arith, ruled (a .place) 2 (a .number) (omega arith) (low 0 to l placed a m) p))
+      go (again3 a earlier s t f p) = absurd (omega (arith, ruled (a .place) 3 (a .number) (omega arith) (after-low a earlier s) p))
+      go (here4 a m t p) = absurd (omega (arith, ruled (a .place) 4 (a .number) (omega arith) (low 0 to l placed a m) p))
+      go (both5 q f g p) = absurd (omega (arith, ruled to 5 3 (omega arith) (omega arith) p))
+      go (lacks6 m t f p) =
+          let q : m ≡ n = one-breach to 6 m to 6 n (omega arith) (omega arith) (demanded-can m t) can (sym p ∙ is) .2 in
+          (rw q at t, rw q at f)
+      go (wants7 m w f p) = absurd (omega (arith, ruled to 7 m (omega arith) (can-known m (wanted-can m w) .0) p))
 
 -- the same of an area
 pub area-breach-tells : (c : Context) (area : List ℕ) (e : ℕ) →
     Octets area → Breach c (length area) (attributes (walk area)) e → Tells e
 area-breach-tells c area e o b =
     breach-tells c (length area) (attributes (walk area)) (walk-placed area o) e b
+
+-- ---- Rule 6 of an area
+
+-- The entry of a number is a breach exactly where the number is mandatory and no attribute carries it.
+pub lacks-exactly : (c : Context) (area : List ℕ) (n : ℕ) → Octets area → T (canBreak n)
+    → Breach c (length area) (attributes (walk area)) (entry (length area) 6 n)
+    ↔ (T (mandatory c n) × Absent n (attributes (walk area)))
+lacks-exactly c area n o can = (
+  λ b. lacking-alone c (length area) (attributes (walk area)) (walk-placed area o) (entry (length area) 6 n) n can refl b,
+  λ q. lacks6 n (q .0) (q .1) refl,
+)

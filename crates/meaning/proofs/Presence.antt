@@ -1,5 +1,6 @@
 -- The code that the table carries for a kind and a number says what the presence lines say. Assumes nothing.
 use mathlib.Core.Path.{_≡_, refl}
+use mathlib.Core.Logic.{_⊎_, inl, ⊎-elim, _↔_}
 use mathlib.Core.Bool.{Bool, true, false, not, _&&_, _||_, Bool·beq}
 use mathlib.Core.List.{[], _∷_}
 use Prim.Native.Nat.{ℕ, _<_}
@@ -9,7 +10,7 @@ use Rattle.meaning.specs.Octets.{isIn}
 use Rattle.meaning.specs.Jobs.{isKind, Context, comes}
 use Rattle.meaning.specs.Presence.{neverHere, asksClass, notPermitted, mandatory, withPap, withChap, withClass, conditional}
 use Rattle.meaning.specs.Codes.{code, codeBars, codeDemands, codeWants}
-use Rattle.meaning.proofs.Tests.{parts, below, below-at}
+use Rattle.meaning.proofs.Tests.{parts, in-among, among-in, below, below-at}
 
 -- ---- Two lines that a computed test finds the same at every kind and number
 
@@ -76,3 +77,13 @@ module _ (c : Context) (n : ℕ) (k : T (isKind (c .kind))) (h : n < 256) where
   pub code-wants : (named : Bool) → codeWants (code c n) (c .flags) named ≡ conditional c n || (eqb n 4 && not named)
   unfolding codeWants conditional
   code-wants named = rw (says-pap, says-chap, says-class, says-name)
+
+-- ---- ON and OFF: request 1
+
+-- In kinds 4 and 5 the number 40 is mandatory, and no other.
+pub status-alone : (c : Context) → (c .kind ≡ 4) ⊎ (c .kind ≡ 5) → (n : ℕ) → T (mandatory c n) ↔ (n ≡ 40)
+unfolding mandatory
+status-alone c k n = ⊎-elim (λ q. rw q alone) (λ q. rw q alone) k
+  where
+    alone : T (isIn n (40 ∷ [])) ↔ (n ≡ 40)
+    alone = (λ t. ⊎-elim (λ e. e) absurd (in-among n (40 ∷ []) t), λ e. among-in n (40 ∷ []) (inl e))
