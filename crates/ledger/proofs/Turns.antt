@@ -97,18 +97,18 @@ passed x r s e = go (passes64 x) refl (sym e ∙ s)
     go false q h = absurd (let z : ◌≡◌ {A = ℕ} 0 1 = cc in omega arith)
 
 -- a counter's account with its reading, as it was answered
-module _ (l : meant.Ledger) (open : Bool) (sheet : List ℕ) (at : Firsts) where
+module _ (l : meant.Ledger) (opened : Bool) (sheet : List ℕ) (at : Firsts) where
   abbrev pub Answered : Counter → Counted → Type 0
   Answered c r = r ≡ counted_as (accounts_with l sheet at c)
 
-  pub added_over : (c : Counter) (r : Counted) → Answered c r → r ≡ counting.Over → refused_as 33 ≡ added_by l open sheet at
+  pub added_over : (c : Counter) (r : Counted) → Answered c r → r ≡ counting.Over → refused_as 33 ≡ added_by l opened sheet at
   unfolding added_by
   added_over c r s e = rw (one_passes (accounts_with l sheet at) c (passed _ r s e))
 
   pub added_all : (p q r s : Counted) → Answered octets_in p → Answered octets_out q → Answered packets_in r → Answered packets_out s
       → (a b c d : Account) → p ≡ counting.Held a → q ≡ counting.Held b → r ≡ counting.Held c → s ≡ counting.Held d
-      → booking.Booked (record { open = open; session = l.session; input_octets = a; output_octets = b; input_packets = c; output_packets = d })
-      ≡ added_by l open sheet at
+      → booking.Booked (record { opened = opened; session = l.session; input_octets = a; output_octets = b; input_packets = c; output_packets = d })
+      ≡ added_by l opened sheet at
   unfolding added_by too_much
   added_all p q r s sp sq sr ss a b c d ep eq er es =
       let ha = held _ p sp a ep in
@@ -154,7 +154,7 @@ module _ (l : meant.Ledger) (k : ℕ) (sheet : List ℕ) (at : Firsts) (r : Id) 
 module _ (l : meant.Ledger) (sheet : List ℕ) (o : Octets sheet) where
   -- what is added is what the sheet's readings add
   added_told : (id : ℕ) → session_in sheet ≡ had id → eqb id l.session ≡ true → judged sheet ≡ book.none
-      → out_of_turn l.open (kind_in sheet) ≡ false → is_start (kind_in sheet) ≡ false
+      → out_of_turn l.opened (kind_in sheet) ≡ false → is_start (kind_in sheet) ≡ false
       → added_by l (not (closes (kind_in sheet))) sheet (firsts_of sheet) ≡ booking_of (book_answer l sheet)
   unfolding added_by book_answer ledger_refusal meant.booked meant.added unlike too_much firsts_of
   added_told id told like j turn start =
@@ -193,18 +193,18 @@ module _ (l : meant.Ledger) (sheet : List ℕ) (o : Octets sheet) where
       pub book_clean : judged sheet ≡ book.none
       book_clean = clean.accepted
 
-      pub book_31 : (b : Bool) → b ≡ out_of_turn l.open kind → b ≡ true → refused_as 31 ≡ booking_of (book_answer l sheet)
+      pub book_31 : (b : Bool) → b ≡ out_of_turn l.opened kind → b ≡ true → refused_as 31 ≡ booking_of (book_answer l sheet)
       unfolding book_answer ledger_refusal
-      book_31 b s t = rw (clean.accepted, sym (ap (out_of_turn l.open) clean.kind_is), sym s, t)
+      book_31 b s t = rw (clean.accepted, sym (ap (out_of_turn l.opened) clean.kind_is), sym s, t)
 
-      pub book_on : (b : Bool) → b ≡ out_of_turn l.open kind → b ≡ false → (r : Booking) → r ≡ named_by l kind sheet (firsts_of sheet)
+      pub book_on : (b : Bool) → b ≡ out_of_turn l.opened kind → b ≡ false → (r : Booking) → r ≡ named_by l kind sheet (firsts_of sheet)
           → r ≡ booking_of (book_answer l sheet)
       unfolding named_by firsts_of
       book_on b s t r is =
           is ∙ ap (λ (h : Had). named_as l kind sheet (firsts_of sheet) h) (session_told sheet o) ∙ rw clean.kind_is (go (session_in sheet) refl)
         where
-          turn : out_of_turn l.open (kind_in sheet) ≡ false
-          turn = ap (out_of_turn l.open) (sym clean.kind_is) ∙ sym s ∙ t
+          turn : out_of_turn l.opened (kind_in sheet) ≡ false
+          turn = ap (out_of_turn l.opened) (sym clean.kind_is) ∙ sym s ∙ t
 
           go : (h : Had) → session_in sheet ≡ h → named_as l (kind_in sheet) sheet (firsts_of sheet) h ≡ booking_of (book_answer l sheet)
           unfolding book_answer ledger_refusal unlike

@@ -32,12 +32,12 @@ accounts_of l packets_in = account_of l.input_packets
 accounts_of l packets_out = account_of l.output_packets
 
 abbrev pub ledger_of : Ledger → meant.Ledger
-ledger_of l = record { open = l.open; session = l.session; accounts = accounts_of l }
+ledger_of l = record { opened = l.opened; session = l.session; accounts = accounts_of l }
 
 abbrev pub ledger_as : meant.Ledger → Ledger
 ledger_as l =
     record {
-      open = l.open;
+      opened = l.opened;
       session = l.session;
       input_octets = account_as (l.accounts octets_in);
       output_octets = account_as (l.accounts octets_out);
@@ -85,10 +85,10 @@ abbrev pub accounts_with : meant.Ledger → (sheet : List ℕ) → Firsts → Co
 accounts_with l sheet at c = meant.counted (l.accounts c) (read_at 2 4 sheet (place_of at c))
 
 -- what comes of a STOP or an Interim by these places, behind which it is open or not: 33, or the next state
-unfoldable pub added_by : meant.Ledger → (open : Bool) (sheet : List ℕ) → Firsts → Booking
-added_by l open sheet at =
+unfoldable pub added_by : meant.Ledger → (opened : Bool) (sheet : List ℕ) → Firsts → Booking
+added_by l opened sheet at =
     cond (meant.too_much (accounts_with l sheet at)) (refused_as 33)
-    (booking.Booked (ledger_as (record { open = open; session = l.session; accounts = accounts_with l sheet at })))
+    (booking.Booked (ledger_as (record { opened = opened; session = l.session; accounts = accounts_with l sheet at })))
 
 -- what comes of a sheet by the session id that it has: 32, a session's beginning, or what is added
 abbrev pub named_as : meant.Ledger → (kind : ℕ) (sheet : List ℕ) → Firsts → Had → Booking

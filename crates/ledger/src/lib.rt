@@ -28,7 +28,7 @@ pub struct Account {
 // The ledger's state: whether a session is open, its id, and an account of each counter.
 #[derive(Drop)]
 pub struct Ledger {
-    pub open: bool,
+    pub opened: bool,
     pub session: u64,
     pub input_octets: Account,
     pub output_octets: Account,
@@ -162,14 +162,14 @@ fn refused(number: u32) -> Booking
 }
 
 // Whether a kind is no START, STOP or Interim, or not at its turn.
-fn out_of_turn(open: bool, kind: u8) -> bool
-    ensures { result ≡ meant.out_of_turn open kind }
+fn out_of_turn(opened: bool, kind: u8) -> bool
+    ensures { result ≡ meant.out_of_turn opened kind }
 {
     if kind == START {
-        return open;
+        return opened;
     }
     if (kind == STOP) | (kind == INTERIM) {
-        return !open;
+        return !opened;
     }
     true
 }
@@ -222,7 +222,7 @@ fn begun(id: u64) -> Ledger
     ensures { result ≡ ledger_as (meant.begun (meant.had id)) }
 {
     Ledger {
-        open: true,
+        opened: true,
         session: id,
         input_octets: cleared(),
         output_octets: cleared(),
@@ -232,8 +232,8 @@ fn begun(id: u64) -> Ledger
 }
 
 // The ledger with the readings of a STOP or an Interim, whose first items stand at these places; it stays open or not.
-fn added(ledger: Ledger, open: bool, sheet: &[u8], at: Firsts) -> Booking
-    ensures { result ≡ added_by (ledger_of ledger) open sheet.now at }
+fn added(ledger: Ledger, opened: bool, sheet: &[u8], at: Firsts) -> Booking
+    ensures { result ≡ added_by (ledger_of ledger) opened sheet.now at }
 {
     let Counted::Held(input_octets) = account_with(ledger.input_octets, sheet, at.input_octets)
     else {
@@ -253,7 +253,7 @@ fn added(ledger: Ledger, open: bool, sheet: &[u8], at: Firsts) -> Booking
         return refused(33);
     };
     Booking::Booked(Ledger {
-        open,
+        opened,
         session: ledger.session,
         input_octets,
         output_octets,
@@ -289,7 +289,7 @@ pub fn fresh() -> Ledger
     ensures { result ≡ ledger_as meant.fresh }
 {
     Ledger {
-        open: false,
+        opened: false,
         session: 0,
         input_octets: cleared(),
         output_octets: cleared(),
@@ -307,7 +307,7 @@ pub fn book(ledger: Ledger, sheet: &[u8]) -> Booking
             return refused(30);
         }
         Judgement::Writable { kind, .. } => {
-            if out_of_turn(ledger.open, kind) {
+            if out_of_turn(ledger.opened, kind) {
                 return refused(31);
             }
             return named(ledger, kind, sheet, firsts(sheet));

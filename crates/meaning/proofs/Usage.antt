@@ -44,7 +44,7 @@ unfolding form_of meets
 four_octets ver c v e =
     ⊎_elim (λ d. eqb→eq (length v) 4 (rw (counter_shape c) at d.met)) (λ q. absurd (low (is_plain (counter_number c)) (sym q.form_is ∙ e))) (either_way ver (counter_number c) v)
   where
-    low : (b : Bool) → cond b 0 1 ≡ 2 → ⊥
+    low : (b : Bool) → ◌≡◌ {A = ℕ} (cond b 0 1) 2 → ⊥
     low true h = omega arith
     low false h = omega arith
 
@@ -55,17 +55,18 @@ first_low : (ver : Version) (c : Counter) (l : List Attribute) → All Carried l
     → first_in ver (counter_number c) 2 number_of l ≡ had r → r < 4294967296
 unfolding first_in
 first_low ver c [] o r e = absurd (let z : ◌≡◌ {A = ℕ} 0 1 = cc in omega arith)
-first_low ver c (a ∷ l) o r e = go (eqb a.number (counter_number c)) (eqb (form ver (counter_number c) a.value) 2) refl e
+first_low ver c (a ∷ l) o r e = go (eqb a.number (counter_number c)) (eqb (form ver (counter_number c) a.value) 2) refl e (first_low ver c l o.1 r)
   where
     go :
         (b d : Bool) → eqb (form ver (counter_number c) a.value) 2 ≡ d
-        → cond b (cond d (had (number_of a.value)) missing) (first_in ver (counter_number c) 2 number_of l) ≡ had r → r < 4294967296
-    go true true q h =
+        → cond b (cond d (had (number_of a.value)) missing) (first_in ver (counter_number c) 2 number_of l) ≡ had r
+        → (first_in ver (counter_number c) 2 number_of l ≡ had r → r < 4294967296) → r < 4294967296
+    go true true q h ih =
         let is : number_of a.value ≡ r = cc in
         let four = four_octets ver c a.value (eqb-true _ 2 q) in
         omega (arith, is, number_low a.value o.0.octets four)
-    go true false q h = absurd (let z : ◌≡◌ {A = ℕ} 0 1 = cc in omega arith)
-    go false d q h = first_low ver c l o.1 r h
+    go true false q h ih = absurd (let z : ◌≡◌ {A = ℕ} 0 1 = cc in omega arith)
+    go false d q h ih = ih h
 
 pub reading_low : (c : Counter) (sheet : List ℕ) → Octets sheet → judged sheet ≡ none → (r : ℕ)
     → reading_in (counter_number c) sheet ≡ had r → r < 4294967296
@@ -159,31 +160,30 @@ module _ (c : Counter) where
       → (P : Ledger → List ℕ → Type 0)
       → ((m : Ledger) (y : ℕ) (k : List ℕ) → Follows (m.accounts c) (y ∷ k) → P m (y ∷ k))
       → P (booked l s) (then x h s)
-  unfolding booked
+  unfolding booked added
   accepted_follows l s o j x h f P on = go (is_start (kind_in s))
     where
       go : (b : Bool) → P (cond b (begun (session_in s)) (added l s)) (cond b (0 ∷ []) (x ∷ h ++ alone (reading_in (counter_number c) s)))
-      unfolding added
       go true = on (begun (session_in s)) 0 [] (rw (begun_cleared (session_in s) c) follows_start)
       go false =
           on (added l s) x (h ++ alone (reading_in (counter_number c) s))
           (follows_more (l.accounts c) x h f (reading_in (counter_number c) s) (reading_low c s o j))
 
+  -- what holds of the sheets behind an accepted one
+  abbrev Rest : (r : List (List ℕ)) → Type 0
+  Rest r =
+      (m : Ledger) (y : ℕ) (k : List ℕ) → Follows (m.accounts c) (y ∷ k)
+      → Follows ((behind_all m r).accounts c) (readings_on (counter_number c) (y ∷ k) (accepted m r))
+
   run_follows : (sheets : List (List ℕ)) → Sheets sheets → (l : Ledger) (x : ℕ) (h : List ℕ) → Follows (l.accounts c) (x ∷ h)
       → Follows ((behind_all l sheets).accounts c) (readings_on (counter_number c) (x ∷ h) (accepted l sheets))
-  unfolding behind_all accepted readings_on
+  unfolding behind_all accepted readings_on book_answer
   run_follows [] o l x h f = f
   run_follows (s ∷ r) o l x h f = go (ledger_refusal l s) refl (run_follows r o.1)
     where
-      abbrev Rest : Type 0
-      Rest =
-          (m : Ledger) (y : ℕ) (k : List ℕ) → Follows (m.accounts c) (y ∷ k)
-          → Follows ((behind_all m r).accounts c) (readings_on (counter_number c) (y ∷ k) (accepted m r))
-
-      go : (q : Refusal) → ledger_refusal l s ≡ q → Rest
+      go : (q : Refusal) → ledger_refusal l s ≡ q → Rest r
           → Follows ((behind_all (behind l s) r).accounts c)
           (readings_on (counter_number c) (x ∷ h) (unless_refused s (ledger_refusal l s) ++ accepted (behind l s) r))
-      unfolding book_answer
       go none e ih = rw e (accepted_follows l s o.0 (written l s e) x h f (λ m k. Follows ((behind_all m r).accounts c) (readings_on (counter_number c) k (accepted m r))) ih)
       go (refusal n k) e ih = rw e (ih l x h f)
 

@@ -51,7 +51,7 @@ pub record Account : Type 0 where
 
 -- the ledger: whether a session is open, its id, and an account of each counter
 pub record Ledger : Type 0 where
-  pub open : Bool
+  pub opened : Bool
   pub session : ℕ
   pub accounts : Counter → Account
 
@@ -61,7 +61,7 @@ cleared = record { last = 0; total = 0 }
 
 -- "a fresh ledger, all zero"
 abbrev pub fresh : Ledger
-fresh = record { open = false; session = 0; accounts = λ c. cleared }
+fresh = record { opened = false; session = 0; accounts = λ c. cleared }
 
 -- ---- A call
 
@@ -84,13 +84,13 @@ closes k = eqb k 3
 -- "A START", which has the id of its session
 unfoldable pub begun : Had → Ledger
 begun missing = fresh
-begun (had id) = record { open = true; session = id; accounts = λ c. cleared }
+begun (had id) = record { opened = true; session = id; accounts = λ c. cleared }
 
 -- a STOP or an Interim, which adds its readings
 unfoldable pub added : Ledger → (sheet : List ℕ) → Ledger
 added l sheet =
     record {
-      open = not (closes (kind_in sheet));
+      opened = not (closes (kind_in sheet));
       session = l.session;
       accounts = λ c. counted (l.accounts c) (reading_in (counter_number c) sheet);
     }
@@ -105,8 +105,8 @@ unwritable none = none
 unwritable (refusal n s) = refusal 30 0
 
 -- 31: "kind not START, STOP or Interim", a START when open, or another when not
-unfoldable pub out_of_turn : (open : Bool) (kind : ℕ) → Bool
-out_of_turn open k = not (is_in k (2 ∷ 3 ∷ 6 ∷ [])) || cond (is_start k) open (not open)
+unfoldable pub out_of_turn : (opened : Bool) (kind : ℕ) → Bool
+out_of_turn opened k = not (is_in k (2 ∷ 3 ∷ 6 ∷ [])) || cond (is_start k) opened (not opened)
 
 -- 32: "missing or unlike the opening one"
 unfoldable pub unlike : (kind opening : ℕ) → Had → Bool
@@ -124,7 +124,7 @@ too_much a = passes64 (a octets_in) || (passes64 (a octets_out) || (passes64 (a 
 unfoldable pub ledger_refusal : Ledger → (sheet : List ℕ) → Refusal
 ledger_refusal l sheet =
     first (unwritable (judged sheet))
-    (first (when (out_of_turn l.open (kind_in sheet)) 31 0)
+    (first (when (out_of_turn l.opened (kind_in sheet)) 31 0)
     (first (when (unlike (kind_in sheet) l.session (session_in sheet)) 32 0)
     (when (too_much (booked l sheet).accounts) 33 0)))
 
