@@ -1,4 +1,6 @@
 // The framing of an attribute area: what stands at a place of it, and whether what comes with it is fit.
+#![tactic(auto)]
+
 ghost use Rattle.std.specs.Prelude.{◌≡◌, ◌+◌, ◌-◌, ◌^◌, ◌<◌, ◌≤◌, length, drop};
 ghost use Rattle.meaning.specs.Jobs.{is_kind, are_flags};
 ghost use Rattle.meaning.specs.Framing.{head_length, vendor_found, found_at};

@@ -1,5 +1,7 @@
 // The check: the list of an attribute area's breaches. One pass over the area tests the framing, counts the entries and lays them into a
 // buffer of its own, from which they are copied; where they are more than that has room for, another pass lays them into the list.
+#![tactic(auto)]
+
 ghost use Rattle.std.specs.Prelude.{◌≡◌, true, not, ◌&&◌, ◌||◌, ℕ, ◌+◌, ◌≤◌, ◌<◌, eqb, length, [], map};
 ghost use Rattle.meaning.specs.Versions.{current};
 ghost use Rattle.meaning.specs.Jobs.{comes};

@@ -1,5 +1,7 @@
 // The desk: read, check and write, for callers in Rattle, which need this crate alone, and for callers in C and Rust, by the exports
 // whose names begin with gir_. An entry takes whatever it is given, and refuses by number what it cannot take.
+#![tactic(auto)]
+
 ghost use Rattle.std.specs.Prelude.{◌≡◌};
 ghost use Rattle.meaning.specs.Jobs.{comes};
 ghost use Rattle.desk.specs.Answers.{Read, Checked, Wrote, done_of, refused_of, ReadOut, CheckedOut, WroteOut};

@@ -1,5 +1,7 @@
 // Filing: the steps by which a sheet comes to stand under its name in a folder, and what follows a step's answer. Nothing here reads or
 // writes a file: the program performs a step, and `next` says which one comes then.
+#![tactic(auto)]
+
 ghost use Rattle.std.specs.Prelude.{◌≡◌, cond, ◌∷◌, eqb};
 ghost use Rattle.meaning.specs.Octets.{same};
 ghost use Rattle.filing.specs.Steps.{onward, back, next_of};

@@ -5,6 +5,8 @@
 // written after it. Of a payload over 1,048,576 octets the first are kept, and its line says what these decide. With `--status` as
 // first argument the last act is to write a digit to descriptor 3: 0 where every record has its line, 1 where one was broken, 2 for
 // trouble.
+#![tactic(auto)]
+
 ghost use Rattle.std.specs.Prelude.{◌≡◌, length};
 
 use libc::{STDERR_FILENO, STDIN_FILENO, STDOUT_FILENO};

@@ -2,6 +2,8 @@
 // the flags in an octet each, and the area. Prints the list of breaches, a line of eight hexadecimal digits for each entry, nothing for
 // an empty list, or one line: `refused N S` or `short`; what it prints is `printing::check` of the input. With `--status` as first
 // argument the last act is to write a digit to descriptor 3.
+#![tactic(auto)]
+
 ghost use Rattle.std.specs.Prelude.{◌≡◌, length};
 
 use libc::{STDERR_FILENO, STDIN_FILENO, STDOUT_FILENO};

@@ -3,6 +3,8 @@
 // behind each. Each gets one line of answer: `filed N`, `refused N S`, `short` or `trouble STEP`, and standard error says why. With
 // `--status` before these, the last act is to write a digit to descriptor 3: 0 each sheet was filed, 1 some were refused or short, 2 there
 // was trouble. Here a step is performed; which one comes then, `filing::next` decides.
+#![tactic(auto)]
+
 ghost use Rattle.std.specs.Prelude.{◌≤◌};
 
 use desk::{Reading, Refusal, Writing};

@@ -1,6 +1,8 @@
 // gir_read: an attribute area with its kind and flags, from standard input or from the file that the argument names: the kind and
 // the flags in an octet each, and the area. Prints the sheet, raw, or one line: `refused N S` or `short`; what it prints
 // is `printing::read` of the input. With `--status` as first argument the last act is to write a digit to descriptor 3.
+#![tactic(auto)]
+
 use libc::{STDERR_FILENO, STDIN_FILENO, STDOUT_FILENO};
 
 // The descriptor that a status is written to: 0 read, 1 refused or short, 2 trouble.

@@ -2,6 +2,8 @@
 // area, raw, or one line: `refused N S`; what it prints is `printing::write` of the sheet. Of a sheet of more than 1,048,576 octets the
 // first are kept; where these do not decide the answer, standard output stays empty, and a line on standard error says so. With
 // `--status` as first argument the last act is to write a digit to descriptor 3.
+#![tactic(auto)]
+
 ghost use Rattle.std.specs.Prelude.{◌≡◌, length};
 
 use libc::{STDERR_FILENO, STDIN_FILENO, STDOUT_FILENO};

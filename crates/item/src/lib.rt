@@ -1,5 +1,7 @@
 // Items of a sheet: what the head of an item says, and whether some readable attribute gives the item, one question a form. Each public
 // function takes any arguments.
+#![tactic(auto)]
+
 ghost use Rattle.std.specs.Prelude.{◌≡◌, ◌&&◌, eqb, leb, length, get_or};
 ghost use Rattle.meaning.specs.Shapes.{qos};
 ghost use Rattle.meaning.specs.Sheet.{number_in};

@@ -1,8 +1,7 @@
 // The usage ledger: the sheets of a session go in one by one, and the totals of its counters come out. A call takes the state by value and
 // gives the next one, or refuses by number.
-use area::Refusal;
-use item::Headed;
-use writing::Judgement;
+#![tactic(auto)]
+
 ghost use Rattle.std.specs.Prelude.{◌≡◌, ◌≤◌, ◌&&◌, length, if◌then◌else◌, ◌==◌};
 ghost use Rattle.meaning.specs.Refusals.{none};
 ghost use Rattle.meaning.specs.Sheet.{judged, kind_in};
@@ -10,6 +9,10 @@ ghost use Rattle.meaning.specs.Ledger as meant;
 ghost use Rattle.ledger.specs.Firsts.{stood_at, read_at, firsts_of};
 ghost use Rattle.ledger.specs.Answers.{account_of, account_as, had_by, reading_by, id_by, counted_as, ledger_of, ledger_as, booking_of};
 ghost use Rattle.ledger.specs.Answers.{refused_as, added_by, named_by};
+
+use area::Refusal;
+use item::Headed;
+use writing::Judgement;
 
 // The kinds of message that a ledger takes.
 const START: u8 = 2;
@@ -247,9 +250,11 @@ fn added(ledger: Ledger, opened: bool, sheet: &[u8], at: Firsts) -> Booking
     else {
         return refused(33);
     };
-    let Counted::Held(output_packets) =
-        account_with(ledger.output_packets, sheet, at.output_packets)
-    else {
+    let Counted::Held(output_packets) = account_with(
+        ledger.output_packets,
+        sheet,
+        at.output_packets,
+    ) else {
         return refused(33);
     };
     Booking::Booked(Ledger {

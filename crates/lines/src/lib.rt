@@ -1,5 +1,7 @@
 // The lines that the programs print, as text: the line of a refusal and of an entry, and the pieces that other lines are made of.
 // Nothing here prints. Each public function takes any arguments.
+#![tactic(auto)]
+
 ghost use Rattle.std.specs.Prelude.{◌≡◌, ◌*◌, ◌≤◌, [], length, take};
 ghost use Rattle.meaning.specs.Answers.{over};
 ghost use Rattle.octets.specs.Parts.{part_of};

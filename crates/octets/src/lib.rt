@@ -1,5 +1,7 @@
 // Octets, as everything else takes them for granted: parts of a slice, numbers with the high octet first, octets laid over a
 // buffer, digit strings, and digits two to an octet. Each public function takes any arguments.
+#![tactic(auto)]
+
 ghost use Rattle.std.specs.Prelude.{◌≡◌, ◌+◌, ◌*◌, ◌/◌, ◌%◌, ◌^◌, ◌<◌, ◌≤◌, min, true, cond, [], eqb, leb, length, get_or};
 ghost use Rattle.meaning.specs.Octets.{all, same, number_of, octets_of, pack, unpack, packed_length};
 ghost use Rattle.meaning.specs.Octets.{is_digit, is_hex, digit_value, digit_text, text};

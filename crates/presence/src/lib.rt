@@ -1,4 +1,6 @@
 // The presence table. A kind's row takes any number for the kind.
+#![tactic(auto)]
+
 ghost use Rattle.std.specs.Prelude.{◌≡◌, ℕ, ◌<◌, [], get_or, T};
 ghost use Rattle.presence.specs.Rows.{row_by, agrees, by_kind, row_of};
 

@@ -1,6 +1,8 @@
 // What the programs print, as a function of what they were given: the answers of the three programs as octets, and the line of a batch's
 // record. Nothing here reads or prints. Each public function takes any arguments; what does not fit is not laid, and said to be 0 octets.
 // Of an input that is longer than decides the answer a start may be given, with the octets of `all`.
+#![tactic(auto)]
+
 ghost use Rattle.std.specs.Prelude.{◌≡◌, ◌+◌, ◌*◌, ◌≤◌, min, length, take};
 ghost use Rattle.meaning.specs.Jobs.{comes};
 ghost use Rattle.octets.specs.Parts.{part_of, laid_at};

@@ -1,5 +1,7 @@
 // Reading: an attribute area gives a sheet. One pass over the area tests the framing, counts the items and lays them into a
 // buffer, from which they are copied.
+#![tactic(auto)]
+
 ghost use Rattle.std.specs.Prelude.{◌≡◌, cond, List, [], ◌∷◌, ◌++◌, ℕ, ◌+◌, ◌-◌, ◌*◌, ◌%◌, ◌≤◌, ◌<◌, eqb, length, take, drop, get_or};
 ghost use Rattle.meaning.specs.Versions.{current};
 ghost use Rattle.meaning.specs.Octets.{octets_of, pack, packed_length, digit_value};

@@ -1,5 +1,7 @@
 // Which form the value of an attribute takes: the shape of the number that it carries, whether the value meets it, and the item of
 // the sheet that the attribute gives. Each public function takes any arguments.
+#![tactic(auto)]
+
 ghost use Rattle.std.specs.Prelude.{◌≡◌, cond, ◌&&◌, ◌/◌, ◌%◌, ◌<◌, eqb, length};
 ghost use Rattle.meaning.specs.Versions.{current};
 ghost use Rattle.meaning.specs.Octets.{all, is_hex, digit_value};

@@ -1,5 +1,7 @@
 // Writing: a sheet gives back the area that has it, with kind and flags. One pass over the sheet tests each item and lays its attribute
 // in a buffer of its own; the area is copied from there when every refusal is ruled out.
+#![tactic(auto)]
+
 ghost use Rattle.std.specs.Prelude.{◌≡◌, cond, ◌&&◌, ◌+◌, ◌*◌, ◌%◌, ◌≤◌, ◌<◌, eqb, length, take};
 ghost use Rattle.meaning.specs.Versions.{current};
 ghost use Rattle.meaning.specs.Octets.{digit_text, text, unpack, packed_length};
