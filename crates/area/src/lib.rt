@@ -11,14 +11,14 @@ ghost use Rattle.area.specs.Answers.{step_of, number_at, carried_at, arrival_of}
 pub const VENDOR_3GPP: u32 = 10415;
 
 // A refusal of the book: its number and its second number.
-#[derive(Drop)]
+#[derive(Clone, Copy)]
 pub struct Refusal {
     pub number: u32,
     pub second: usize,
 }
 
 // A part of an area.
-#[derive(Drop)]
+#[derive(Clone, Copy)]
 pub struct Part {
     pub start: usize,
     pub len: usize,
@@ -26,7 +26,7 @@ pub struct Part {
 
 // What stands at a place: an attribute with the number it carries, 0 to 255 for a plain one and 256 more than the sub-attribute's
 // for a 3GPP one, its value and the place behind it; a refusal; or nothing, at the area's end.
-#[derive(Drop)]
+#[derive(Clone, Copy)]
 pub enum Step {
     Attribute {
         number: u16,
@@ -38,7 +38,7 @@ pub enum Step {
 }
 
 // What a well framed area carries at a place: the number, the value and the place behind the attribute.
-#[derive(Drop)]
+#[derive(Clone, Copy)]
 pub struct Carried {
     pub number: u16,
     pub value: Part,
@@ -46,7 +46,7 @@ pub struct Carried {
 }
 
 // Whether an area comes with a kind, flags and a length that are allowed.
-#[derive(Drop)]
+#[derive(Clone, Copy)]
 pub enum Arrival {
     Fit,
     Refused(Refusal),

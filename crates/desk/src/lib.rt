@@ -1,7 +1,6 @@
 // The desk: read, check and write, for callers in Rattle, which need this crate alone, and for callers in C and Rust, by the exports
 // whose names begin with gir_. An entry takes whatever it is given, and refuses by number what it cannot take.
 #![tactic(auto)]
-
 ghost use Rattle.std.specs.Prelude.{◌≡◌};
 ghost use Rattle.meaning.specs.Jobs.{comes};
 ghost use Rattle.desk.specs.Answers.{Read, Checked, Wrote, done_of, refused_of, ReadOut, CheckedOut, WroteOut};
@@ -16,28 +15,28 @@ pub const LONGEST_SHEET: usize = 8161;
 pub const LONGEST_LIST: usize = 6126;
 
 // A refusal of the book: its number and its second number.
-#[derive(Drop)]
+#[derive(Clone, Copy)]
 pub struct Refusal {
     pub number: u32,
     pub second: usize,
 }
 
 // What reading answers: the octets of the sheet that stands at the buffer's start, or a refusal.
-#[derive(Drop)]
+#[derive(Clone, Copy)]
 pub enum Reading {
     Sheet(usize),
     Refused(Refusal),
 }
 
 // What checking answers: the number of entries that stand at the list's start, or a refusal.
-#[derive(Drop)]
+#[derive(Clone, Copy)]
 pub enum Checking {
     List(usize),
     Refused(Refusal),
 }
 
 // What writing answers: the octets of the area that stands at the buffer's start, with the kind and flags of the sheet, or a refusal.
-#[derive(Drop)]
+#[derive(Clone, Copy)]
 pub enum Writing {
     Area { length: usize, kind: u8, flags: u8 },
     Refused(Refusal),
@@ -46,7 +45,7 @@ pub enum Writing {
 // An answer for callers in C and Rust: `refused` is 0 where the job was done, with the octets or entries written as `length`, and 1
 // where it was refused, with the book's number and second number; `kind` and `flags` are a written sheet's. The rest is 0.
 #[repr(C)]
-#[derive(Drop)]
+#[derive(Clone, Copy)]
 pub struct Answer {
     pub refused: u32,
     pub number: u32,

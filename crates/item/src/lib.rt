@@ -14,7 +14,7 @@ use area::Refusal;
 
 // What the head of an item says: the number that it carries, 0 to 255 for a plain one and 256 more than the sub-attribute's for a 3GPP
 // one, its form and count, and the place behind the octets it stores; or a refusal, 22 or 23.
-#[derive(Drop)]
+#[derive(Clone, Copy)]
 pub enum Headed {
     Item {
         number: u16,

@@ -315,6 +315,14 @@ pub copied_there : (at : ℕ) (s d p : List ℕ) → at + length s ≤ length d
     → p ≡ take (length s) s ++ drop (length s) (take (length d - at) (drop at d)) → put_mid at (length d - at) d p ≡ laid_at at s d
 copied_there at s d p h q = (laid_there at s d p h (copied_over s (take (length d - at) (drop at d)) p q)).holds
 
+-- What is copied into a lent part of just its length is laid there, said of the whole buffer.
+pub copied_part : (at end : ℕ) (s d p : List ℕ) → end ≡ at + length s → end ≤ length d → p ≡ s → put_mid at (end - at) d p ≡ laid_at at s d
+unfolding over
+copied_part at end s d p size h q =
+    ap (λ (r : List ℕ). take at d ++ r) (ap (λ (r : List ℕ). r ++ drop (end - at) (drop at d)) q
+    ∙ ap (λ (m : ℕ). s ++ drop m (drop at d)) (omega (arith, size)))
+    ∙ sym (laid_fits at s d (omega (arith, size)))
+
 -- Any two answers that a writer's promise permits are the same, the buffer included.
 pub one_laid : (at : ℕ) (s d : List ℕ) (said said' : Bool) (held held' : List ℕ) → Laid at s d said held → Laid at s d said' held'
     → (said ≡ said') × (held ≡ held')

@@ -10,7 +10,7 @@ ghost use Rattle.octets.specs.Parts.{part_of, Numbered, Overlaid, laid_at, Laid}
 ghost use Rattle.octets.specs.DigitStrings.{halves, digits_of, gathered_of, got_of, eight_of, turned_of, below_ten};
 
 // "fifteen digits together with their count" at most: the digits' values, with 15s behind them.
-#[derive(Drop)]
+#[derive(Clone, Copy)]
 pub struct Digits {
     pub octets: [u8; 15],
     pub len: usize,

@@ -25,14 +25,14 @@ const SHORT_AREA: usize = 384;
 const SHORT_ROOM: usize = 784;
 
 // What reading answers: the octets of the sheet that stands at the buffer's start, or a refusal.
-#[derive(Drop)]
+#[derive(Clone, Copy)]
 pub enum Reading {
     Sheet(usize),
     Refused(Refusal),
 }
 
 // What a pass over an area gives: how many items it has and how many octets these are, or the first refusal of the framing.
-#[derive(Drop)]
+#[derive(Clone, Copy)]
 enum Tally {
     Whole { count: usize, written: usize },
     Broken(Refusal),
@@ -57,7 +57,7 @@ fn put_number(buf: &mut [u8], at: usize, form: u8, n: u32) -> usize
         return 1;
     }
     let four = octets::u32_octets(n);
-    bytes::copy(&four, &mut buf[at..]);
+    buf[at..at + 4].copy_from_slice(&four);
     4
 }
 
@@ -109,13 +109,13 @@ fn put_stored(buf: &mut [u8], at: usize, area: &[u8], item: Item) -> usize
         }
         Value::Address(n) => {
             let four = octets::u32_octets(n);
-            bytes::copy(&four, &mut buf[at..]);
+            buf[at..at + 4].copy_from_slice(&four);
             return 4;
         }
         Value::Digits => {
             let digits = item.digits;
             let eight = octets::packed(digits);
-            bytes::copy(&eight, &mut buf[at..]);
+            buf[at..at + 8].copy_from_slice(&eight);
             return octets::packed_len(octets::least(digits.len, 15));
         }
         Value::Plain(p) => {
@@ -220,7 +220,7 @@ fn hand_over(kind: u32, flags: u32, count: usize, items: &[u8], sheet: &mut [u8]
     }
     let head = sheet_head(kind, flags, count);
     octets::copy_at(sheet, 0, &head);
-    bytes::copy(items, &mut sheet[9..]);
+    sheet[9..needed].copy_from_slice(items);
     Reading::Sheet(needed)
 }
 

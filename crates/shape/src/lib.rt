@@ -69,7 +69,7 @@ pub const ANY_OCTET: u8 = 71;
 pub const DECIMAL_DIGIT: u8 = 72;
 
 // An item's value, "either a number, an address, digits" or octets as they stand, a part of the area; the digits stand beside it.
-#[derive(Drop)]
+#[derive(Clone, Copy)]
 pub enum Value {
     Number(u32),
     Address(u32),
@@ -79,7 +79,7 @@ pub enum Value {
 
 // An item of the sheet: the number that it carries, 0 to 255 for a plain one and 256 more than the sub-attribute's for a 3GPP one,
 // its form and count, its value, and the digits in form 4.
-#[derive(Drop)]
+#[derive(Clone, Copy)]
 pub struct Item {
     pub number: u16,
     pub form: u8,

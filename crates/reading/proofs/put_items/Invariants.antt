@@ -1,0 +1,12 @@
+-- `reading::put_items` meets its contract: its loop has counted the items of the attributes before `place`, and laid them.
+-- Assumes nothing.
+use Prim.Native.Nat.{◌-◌}
+use lib.ListN.{length}
+use Rattle.reading.proofs.Passes.{Passing}
+use Rattle.reading.proofs.put_items.Given as goal
+
+abbrev pub invariant-loop-number : goal.invariant-loop-number
+invariant-loop-number l = Passing l.area l.initial.buf l.buf l.place l.count l.written
+
+abbrev pub decreases-loop-number : goal.decreases-loop-number
+decreases-loop-number l = length l.area - l.place

@@ -1,0 +1,40 @@
+-- `reading::put_stored` meets its contract. Assumes nothing.
+use borrow.Author.Rules.{rules}
+use native.Mathlib.Omega.{arith}
+use Rattle.octets.proofs.Overs.{copied_part}
+use Rattle.reading.proofs.Laying.{put_as, put_address, digits_put, number_stored, address_stored, digits_stored, rest_stored}
+use Rattle.reading.proofs.Laying.{rest_holds, rest_room}
+use Rattle.reading.proofs.put_stored.Goals as goal
+
+pub returns-in-Number : goal.returns-in-Number
+returns-in-Number c = put_as _ _ _ _ _ _ (number_stored _ _ _ c.in-Number.is) c.put_number.ensures
+
+pub returns-in-Address : goal.returns-in-Address
+returns-in-Address c =
+    let s = c in
+    put_as _ _ _ _ _ _ (address_stored _ _ _ c.in-Address.is)
+    (put_address _ _ _ _ _ c.u32_octets-four.ensures (omega (arith, s.requires.1))
+    (copied_part _ _ _ _ _ (omega arith) (omega (arith, s.requires.1)) c.copy_from_slice.ensures.after))
+
+pub enum_told-1 : goal.enum_told-1
+enum_told-1 c = search rules
+
+pub returns-in-Digits : goal.returns-in-Digits
+returns-in-Digits c =
+    let s = c in
+    put_as _ _ _ _ _ _ (digits_stored _ _ c.in-Digits.is)
+    (digits_put _ _ _ _ _ _ _ c.packed-eight.ensures c.least.ensures
+    c.packed_len.ensures (omega (arith, s.requires.1))
+    (copied_part _ _ _ _ _ (omega arith) (omega (arith, s.requires.1)) c.copy_from_slice-in-Digits.ensures.after))
+
+pub slice_bounds-put_part-count : goal.slice_bounds-put_part-count
+slice_bounds-put_part-count c = omega (arith, c.requires.0.inside _ c.in-Plain.is)
+
+pub put_part-requires : goal.put_part-requires
+put_part-requires c =
+    let s = c in
+    let is = c.in-Plain.is in
+    (s.requires.0.released _ is, (rest_holds _ _ _ is s.requires.0, rest_room _ _ _ is _ _ s.requires.1))
+
+pub returns-in-Plain : goal.returns-in-Plain
+returns-in-Plain c = put_as _ _ _ _ _ _ (rest_stored _ _ _ c.in-Plain.is) c.put_part.ensures
