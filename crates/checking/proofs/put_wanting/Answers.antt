@@ -1,0 +1,31 @@
+-- `checking::put_wanting` meets its contract: the loop has laid what the numbers before i break. Assumes nothing.
+use native.Mathlib.Omega.{arith}
+use Rattle.meaning.specs.Listing.{wantable}
+use Rattle.checking.proofs.Laying.{laying_none, laying_more, laying_all, laid_kept, low_at}
+use Rattle.checking.proofs.put_wanting.Goals as goal
+
+pub loop-i-init : goal.loop-i-init
+loop-i-init c = laying_none _ _ _ _
+
+pub overflow_cast-n : goal.overflow_cast-n
+overflow_cast-n c = omega (arith, low_at 512 wantable tt c.loop-i.i c.loop-i-test.true)
+
+pub bounds-seen-n : goal.bounds-seen-n
+bounds-seen-n c = omega (arith, low_at 512 wantable tt c.loop-i.i c.loop-i-test.true)
+
+pub put-written-requires : goal.put-written-requires
+put-written-requires c =
+    let p = c.requires in
+    let h = c.loop-i-test.true in
+    (omega (arith, p.0, h, c.loop-i.invariant.few), p.1, omega arith, low_at 512 wantable tt c.loop-i.i h)
+
+pub loop-i-preserved : goal.loop-i-preserved
+loop-i-preserved c =
+    laying_more _ wantable _ _ _ _ _ c.loop-i.invariant c.loop-i-test.true _ _ _
+    (rw c.wanted.ensures) c.put-written.ensures
+
+pub shape_of-list : goal.shape_of-list
+shape_of-list c = laid_kept _ _ _ _ _ c.loop-i.invariant.lays
+
+pub returns : goal.returns
+returns c = laying_all _ wantable _ _ _ _ _ c.loop-i.invariant c.loop-i-test.false
