@@ -323,6 +323,11 @@ copied_part at end s d p size h q =
     ∙ ap (λ (m : ℕ). s ++ drop m (drop at d)) (omega (arith, size)))
     ∙ sym (laid_fits at s d (omega (arith, size)))
 
+-- And into the front of a buffer.
+pub copied_front : (n : ℕ) (s d p : List ℕ) → n ≡ length s → p ≡ s → p ++ drop n d ≡ over s d
+unfolding over
+copied_front n s d p size q = ap (λ (r : List ℕ). r ++ drop n d) q ∙ ap (λ (m : ℕ). s ++ drop m d) size
+
 -- Any two answers that a writer's promise permits are the same, the buffer included.
 pub one_laid : (at : ℕ) (s d : List ℕ) (said said' : Bool) (held held' : List ℕ) → Laid at s d said held → Laid at s d said' held'
     → (said ≡ said') × (held ≡ held')

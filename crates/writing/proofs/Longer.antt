@@ -1,7 +1,7 @@
 -- Sheets that begin with the same octets: what these decide is so for each of them. Assumes nothing.
 use mathlib.Core.Path.{◌≡◌, refl, sym, ap, subst, ◌∙◌}
 use mathlib.Core.Logic.{◌⊎◌, inl, inr}
-use mathlib.Core.Bool.{Bool, true, false, not, ◌&&◌}
+use mathlib.Core.Bool.{Bool, true, false, ◌&&◌}
 use mathlib.Core.List.{List, [], ◌∷◌, ◌++◌, append_assoc}
 use Prim.Native.Nat.{ℕ, zero, suc, ◌+◌, ◌<◌, ◌≤◌}
 use native.Mathlib.Omega.{arith}
@@ -12,8 +12,8 @@ use lib.Seq.{take-append-le, drop-append-le, take_all, length-take-le}
 use Rattle.meaning.specs.Octets.{same, number_of}
 use Rattle.meaning.specs.Versions.{Version, one}
 use Rattle.meaning.specs.Jobs.{is_kind, are_flags}
-use Rattle.meaning.specs.Framing.{carries, Walk, end}
-use Rattle.meaning.specs.Refusals.{Refusal, none, refusal, when, first, fault, too_long, sheet_refusal}
+use Rattle.meaning.specs.Framing.{carries, Walk}
+use Rattle.meaning.specs.Refusals.{Refusal, none, refusal, when, fault, too_long, sheet_refusal}
 use Rattle.meaning.specs.Sheet.{stored_length, Entered, holds, refused, item, judged_item, whole_item, entered, on_item, items}
 use Rattle.meaning.specs.Sheet.{items_in, kind_in, flags_in, area_in, marked, judged}
 use Rattle.writing.specs.Starts.{filled, start_by, start_refusal}

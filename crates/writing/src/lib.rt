@@ -37,42 +37,42 @@ const SHORT_AREA: usize = 377;
 const SHORT_ROOM: usize = 640;
 
 // What writing answers: the octets of the area that stands at the buffer's start, with the kind and flags of the sheet, or a refusal.
-#[derive(Drop)]
+#[derive(Clone, Copy)]
 pub enum Writing {
     Area { length: usize, kind: u8, flags: u8 },
     Refused(Refusal),
 }
 
 // What a sheet is judged: written, with the octets of its area, its kind and its flags, or refused.
-#[derive(Drop)]
+#[derive(Clone, Copy)]
 pub enum Judgement {
     Writable { size: usize, kind: u8, flags: u8 },
     Refused(Refusal),
 }
 
 // What the first octets of a longer sheet decide of it: a refusal, or that it hangs on the rest.
-#[derive(Drop)]
+#[derive(Clone, Copy)]
 pub enum Start {
     Refused(Refusal),
     Open,
 }
 
 // What the front of a sheet says: that its items are to be judged, or 20 or 21.
-#[derive(Drop)]
+#[derive(Clone, Copy)]
 enum Front {
     Fit,
     Refused(Refusal),
 }
 
 // What the items of a sheet say: the octets of their attributes, or 22 or 23.
-#[derive(Drop)]
+#[derive(Clone, Copy)]
 enum Pass {
     Items(usize),
     Broken(Refusal),
 }
 
 // What a writer of a value or an attribute says: its octets, or that no readable attribute gives the item.
-#[derive(Drop)]
+#[derive(Clone, Copy)]
 enum Put {
     Octets(usize),
     Nothing,
@@ -89,7 +89,7 @@ fn put_front(buf: &mut [u8], at: usize, number: u16)
     }
     let id = octets::u32_octets(area::VENDOR_3GPP);
     let front = [26, 0, id[0], id[1], id[2], id[3], (number - 256) as u8, 0];
-    bytes::copy(&front, &mut buf[at..]);
+    buf[at..at + 8].copy_from_slice(&front);
 }
 
 // Lays the lengths in the head of an attribute whose value has so many octets: that of the sub-attribute, and that of the whole. A plain
@@ -169,7 +169,7 @@ fn put_fours(buf: &mut [u8], at: usize, own: bool, stored: &[u8]) -> Put
         return Put::Nothing;
     }
     let four = [stored[0], stored[1], stored[2], stored[3]];
-    bytes::copy(&four, &mut buf[at..]);
+    buf[at..at + 4].copy_from_slice(&four);
     Put::Octets(4)
 }
 
@@ -491,7 +491,7 @@ fn hand_over(said: Judgement, made: &[u8], area: &mut [u8]) -> Writing
                     second: size,
                 });
             }
-            bytes::copy(&made[..size], area);
+            area[..size].copy_from_slice(&made[..size]);
             return Writing::Area {
                 length: size,
                 kind,

@@ -1,0 +1,23 @@
+-- No such value, or the value with what stands behind it, or the value alone. Assumes nothing.
+use borrow.Author.Tests.{not-true, not-false}
+use mathlib.Core.Path.{sym, ◌∙◌}
+use lib.Seq.{length-take-le}
+use Rattle.writing.proofs.Valuing.{laying_none, raw_sixteen, raw_alone}
+use Rattle.writing.proofs.put_raw.Goals as goal
+
+pub slice_bounds-is_raw-end : goal.slice_bounds-is_raw-end
+slice_bounds-is_raw-end c = sym (length-take-le _ _ c.requires.0)
+
+pub returns-then-not-is_raw : goal.returns-then-not-is_raw
+returns-then-not-is_raw c = laying_none _ _ _ _ _ (sym c.is_raw.ensures ∙ not-true _ c.if-not-is_raw.true-raw)
+
+pub slice_bounds-copy_long-end : goal.slice_bounds-copy_long-end
+slice_bounds-copy_long-end c = sym (length-take-le _ _ c.requires.0)
+
+pub returns-then-size-le16 : goal.returns-then-size-le16
+returns-then-size-le16 c = let p = c.requires in
+    raw_sixteen _ _ _ _ _ _ _ _ p.0 p.1 (sym c.is_raw.ensures ∙ not-false _ c.if-not-is_raw.false-raw) c.if-size-le16.true c.copy_sixteen.ensures.holds
+
+pub returns-else-size-le16 : goal.returns-else-size-le16
+returns-else-size-le16 c = let p = c.requires in
+    raw_alone _ _ _ _ _ _ _ _ p.0 p.1 (sym c.is_raw.ensures ∙ not-false _ c.if-not-is_raw.false-raw) c.copy_long.ensures.holds
