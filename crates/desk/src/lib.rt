@@ -1,6 +1,7 @@
 // The desk: read, check and write, for callers in Rattle, which need this crate alone, and for callers in C and Rust, by the exports
 // whose names begin with gir_. An entry takes whatever it is given, and refuses by number what it cannot take.
 #![tactic(auto)]
+
 ghost use Rattle.std.specs.Prelude.{◌≡◌};
 ghost use Rattle.meaning.specs.Jobs.{comes};
 ghost use Rattle.desk.specs.Answers.{Read, Checked, Wrote, done_of, refused_of, ReadOut, CheckedOut, WroteOut};
@@ -143,8 +144,7 @@ fn refused(refusal: Refusal) -> Answer
 }
 
 // `read`, for callers in C and Rust.
-#[unsafe(no_mangle)]
-pub extern "C" fn gir_read(area: &[u8], kind: u32, flags: u32, sheet: &mut [u8]) -> Answer
+pub fn gir_read(area: &[u8], kind: u32, flags: u32, sheet: &mut [u8]) -> Answer
     ensures { ReadOut kind flags area.now sheet.old result sheet.new }
 {
     match read(area, kind, flags, sheet) {
@@ -158,8 +158,7 @@ pub extern "C" fn gir_read(area: &[u8], kind: u32, flags: u32, sheet: &mut [u8])
 }
 
 // `check`, for callers in C and Rust.
-#[unsafe(no_mangle)]
-pub extern "C" fn gir_check(area: &[u8], kind: u32, flags: u32, list: &mut [u32]) -> Answer
+pub fn gir_check(area: &[u8], kind: u32, flags: u32, list: &mut [u32]) -> Answer
     ensures { CheckedOut (comes kind flags) area.now list.old result list.new }
 {
     match check(area, kind, flags, list) {
@@ -173,8 +172,7 @@ pub extern "C" fn gir_check(area: &[u8], kind: u32, flags: u32, list: &mut [u32]
 }
 
 // `write`, for callers in C and Rust.
-#[unsafe(no_mangle)]
-pub extern "C" fn gir_write(sheet: &[u8], area: &mut [u8]) -> Answer
+pub fn gir_write(sheet: &[u8], area: &mut [u8]) -> Answer
     ensures { WroteOut sheet.now area.old result area.new }
 {
     match write(sheet, area) {
