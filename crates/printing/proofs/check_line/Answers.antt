@@ -1,0 +1,30 @@
+-- By the case of the answer. Assumes nothing.
+use native.Mathlib.Omega.{arith}
+use mathlib.Core.Path.{refl}
+use Rattle.printing.proofs.Shown.{rest_given, check_short, check_given, check_refused}
+use Rattle.printing.proofs.check_line.Goals as goal
+
+pub returns-then-given-lt2 : goal.returns-then-given-lt2
+returns-then-given-lt2 c =
+    let a = c.args in
+    let w =
+    check_short _ a.given.now a.all _ a.list.now _ _ _ (omega arith) c.put.ensures in
+    record { start_laid = w.0; list_after = w.1 }
+
+pub returns-in-List : goal.returns-in-List
+returns-in-List c =
+    let a = c.args in
+    let w =
+    check_given _ a.given.now a.all _ a.list.now
+    (omega arith) c.wide32-kind.ensures c.wide32-flags.ensures (rest_given a.given.now) c.check_within.ensures
+    c.in-List.is refl c.put_list.ensures in
+    record { start_laid = w.0; list_after = w.1 }
+
+pub returns-in-Refused : goal.returns-in-Refused
+returns-in-Refused c =
+    let a = c.args in
+    let w =
+    check_refused _ a.given.now a.all _ a.list.now
+    (omega arith) c.wide32-kind.ensures c.wide32-flags.ensures (rest_given a.given.now) c.check_within.ensures
+    c.in-Refused.is c.put_refusal.ensures in
+    record { start_laid = w.0; list_after = w.1 }

@@ -1,0 +1,23 @@
+-- Kind and flags, and the area's digits behind them. Assumes nothing.
+use native.Mathlib.Omega.{arith}
+use mathlib.Core.Path.{refl, ap}
+use Rattle.lines.specs.declared.Text.{Text}
+use Rattle.lines.specs.Lines.{text_of}
+use Rattle.printing.proofs.Pieces.{area_there, area_not, kind_flags_length}
+use Rattle.printing.proofs.put_area.Goals as goal
+
+pub returns-then-out-area : goal.returns-then-out-area
+returns-then-out-area c = let a = c.args in area_not a.kind a.flags _ _ (omega arith)
+
+pub overflow_add-n-2 : goal.overflow_add-n-2
+unfolding text_of
+overflow_add-n-2 c = let a = c.args in omega (arith, ap (λ (t : Text). t.len) c.kind_flags-front.ensures, kind_flags_length a.kind a.flags)
+
+pub returns-then-out-n : goal.returns-then-out-n
+unfolding text_of
+returns-then-out-n c = let a = c.args in area_not a.kind a.flags _ _ (omega (arith, ap (λ (t : Text). t.len) c.kind_flags-front.ensures))
+
+pub returns : goal.returns
+returns c =
+    let a = c.args in
+    area_there a.kind a.flags _ _ _ _ _ _ _ c.kind_flags-front.ensures refl (omega arith) c.put_text.ensures c.lay_hex.ensures

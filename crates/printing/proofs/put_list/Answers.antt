@@ -1,0 +1,22 @@
+-- Entries with a space behind each, and the line's end in place of the last. Assumes nothing.
+use native.Mathlib.Omega.{arith}
+use mathlib.Core.Path.{sym, ◌∙◌}
+use Rattle.printing.proofs.Pieces.{list_none, list_not, list_there}
+use Rattle.printing.proofs.put_list.Goals as goal
+
+pub returns-then-least-eq0 : goal.returns-then-least-eq0
+returns-then-least-eq0 c =
+    let k = c in
+    list_none _ _ _ _ _ (sym k.least.ensures ∙ omega arith) c.put.ensures
+
+pub returns-then-n-eq0 : goal.returns-then-n-eq0
+returns-then-n-eq0 c =
+    let k = c in
+    let a = k.args in
+    list_not a.list.now a.out.now a.count _ _ (λ e. omega (arith, k.least.ensures)) c.entries-n.ensures (omega arith)
+
+pub returns : goal.returns
+returns c =
+    let k = c in
+    let a = k.args in
+    list_there a.list.now a.out.now a.count _ _ (λ e. omega (arith, k.least.ensures)) c.entries-n.ensures _ _ (λ e. omega arith) c.copy_at.ensures
