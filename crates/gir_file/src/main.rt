@@ -271,7 +271,8 @@ fn make_sheet(taken: &[u8], sheet: &mut [u8], mut work: Work) -> Done {
             return well(work);
         }
         Reading::Refused(refusal) => {
-            return badly(work, refused(refusal, work.all));
+            let said = refused(refusal, work.all);
+            return badly(work, said);
         }
     }
 }
