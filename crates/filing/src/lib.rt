@@ -10,7 +10,7 @@ ghost use Rattle.filing.specs.Names.{up_to, line_of, ends_in_return, pair_by_end
 ghost use Rattle.filing.specs.Outcomes.{refused_or, worse_of, digit_of};
 
 // A step of filing one sheet. IN names what is filed, OUT the name that the sheet gets; the temporary file stands in OUT's folder.
-#[derive(Drop)]
+#[derive(Clone, Copy)]
 pub enum Step {
     // reads IN: a kind octet, a flags octet and an area
     Take,
@@ -55,7 +55,7 @@ pub enum Step {
 }
 
 // How a step went.
-#[derive(Drop)]
+#[derive(Clone, Copy)]
 pub enum Answer {
     Well,
     Badly,
@@ -186,7 +186,7 @@ fn before(s: &[u8], x: u8) -> usize
 }
 
 // A line of a list: IN, a tab and OUT, the tab standing at a place; or what is wrong with it.
-#[derive(Drop)]
+#[derive(Clone, Copy)]
 pub enum Line {
     Names(usize),
     NoTab,
@@ -219,7 +219,7 @@ pub fn ends_in_return(name: &[u8]) -> bool
 }
 
 // Two names, IN and OUT: they fit, or what is wrong with them.
-#[derive(Drop)]
+#[derive(Clone, Copy)]
 pub enum Pair {
     Fit,
     NoName,
@@ -271,7 +271,7 @@ pub fn judge_pair(input: &[u8], out: &[u8], exact: bool) -> Pair
 }
 
 // What came of a filing, or of all of them: all filed, some refused or short, trouble with some.
-#[derive(Drop)]
+#[derive(Clone, Copy)]
 pub enum Outcome {
     Filed,
     Refused,

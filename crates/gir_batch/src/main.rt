@@ -8,10 +8,9 @@
 #![tactic(auto)]
 
 ghost use Rattle.std.specs.Prelude.{◌≡◌, length};
+ghost use Rattle.std.specs.Io.{ReadsAtMost};
 
-use libc::{STDERR_FILENO, STDIN_FILENO, STDOUT_FILENO};
-
-const STATUS_FILENO: i32 = 3;
+use std::io::{Error, Print, Read, Result};
 
 // The status: every record has its line, one was broken, or there was trouble.
 const ANSWERED: u8 = 0;
@@ -33,7 +32,7 @@ const INPUT: usize = 9 + 1048576;
 const PART: usize = 131072;
 
 // Which octets of the input buffer are read and not used yet: from `at` to `have`.
-#[derive(Drop)]
+#[derive(Clone, Copy)]
 struct Feed {
     at: usize,
     have: usize,
@@ -52,14 +51,7 @@ enum Ahead {
 enum Fed {
     More(Feed),
     End,
-    Failed,
-}
-
-// What one read gives.
-#[derive(Drop)]
-enum Got {
-    Octets(usize),
-    Failed,
+    Failed(Error),
 }
 
 // Whether all octets that are to be passed over were there.
@@ -67,7 +59,7 @@ enum Got {
 enum Skipped {
     All,
     End,
-    Failed,
+    Failed(Error),
 }
 
 // How the program goes on: with what was read, so many octets of lines that wait, and the number of the next record; or that it ends,
@@ -85,12 +77,12 @@ enum Going {
 // ---- Writing
 
 // Writes octets out; where that fails it says so.
-fn write_out(s: &[u8]) -> bool {
-    if io::write_all(STDOUT_FILENO, s) {
-        return true;
+fn write_out(rt: HostRuntime, s: &[u8]) -> bool {
+    if let Err(error) = rt.write_all(s) {
+        streams::fail(rt, b"gir_batch: standard output", error);
+        return false;
     }
-    os::fail(b"gir_batch: standard output");
-    false
+    true
 }
 
 // Puts the line of a record behind the lines that wait, and tells how many octets wait then.
@@ -112,14 +104,14 @@ fn put_line(
 }
 
 // Writes the lines that wait, and behind them that a record is broken; tells the status.
-fn broken(waiting: &[u8], number: u64) -> u8 {
-    if !write_out(waiting) {
+fn broken(rt: HostRuntime, waiting: &[u8], number: u64) -> u8 {
+    if !write_out(rt, waiting) {
         return TROUBLE;
     }
     let word = lines::with(lines::nothing(), b"broken ");
     let line = lines::with(lines::with_decimal(word, number), b"\n");
     let text = line.octets;
-    if !write_out(octets::part(&text, 0, line.len)) {
+    if !write_out(rt, octets::part(&text, 0, line.len)) {
         return TROUBLE;
     }
     BROKEN
@@ -156,23 +148,18 @@ fn moved(buf: &mut [u8], feed: Feed) -> Feed {
 }
 
 // One read, to the buffer's start.
-fn read_some(buf: &mut [u8]) -> Got {
-    let got = libc::read(STDIN_FILENO, buf);
-    if got < 0 {
-        return Got::Failed;
-    }
-    Got::Octets(io::count(got, buf))
+fn read_some(rt: HostRuntime, buf: &mut [u8]) -> Result<usize>
+    ensures { ReadsAtMost result buf.new }
+{
+    rt.stdin().read(buf)
 }
 
 // One read, behind what the buffer holds already.
-fn read_behind(buf: &mut [u8], feed: Feed) -> Fed {
-    let have = feed.have;
-    if buf.len() < have {
-        return Fed::Failed;
-    }
+fn read_behind(rt: HostRuntime, buf: &mut [u8], feed: Feed) -> Fed {
+    let have = octets::least(feed.have, buf.len());
     let end = have + octets::least(PART, buf.len() - have);
-    match read_some(&mut buf[have..end]) {
-        Got::Octets(n) => {
+    match read_some(rt, &mut buf[have..end]) {
+        Ok(n) => {
             if n == 0 {
                 return Fed::End;
             }
@@ -181,30 +168,30 @@ fn read_behind(buf: &mut [u8], feed: Feed) -> Fed {
                 have: have + octets::least(n, PART),
             })
         }
-        Got::Failed => Fed::Failed,
+        Err(error) => Fed::Failed(error),
     }
 }
 
 // Passes over some octets of the input, at most so many, and tells how many came.
-fn pass(count: usize) -> Got {
-    let mut chunk = io::large_buffer();
+fn pass(rt: HostRuntime, count: usize) -> Result<usize> {
+    let mut chunk = streams::large_buffer();
     let want = octets::least(count, 65536);
-    read_some(&mut chunk[..want])
+    read_some(rt, &mut chunk[..want])
 }
 
 // Passes over octets of the input; whether all of them were there.
-fn skip(count: usize) -> Skipped {
+fn skip(rt: HostRuntime, count: usize) -> Skipped {
     let mut left = count;
     while left > 0 {
-        match pass(left) {
-            Got::Octets(got) => {
+        match pass(rt, left) {
+            Ok(got) => {
                 if got == 0 {
                     return Skipped::End;
                 }
                 left -= octets::least(got, left);
             }
-            Got::Failed => {
-                return Skipped::Failed;
+            Err(error) => {
+                return Skipped::Failed(error);
             }
         }
     }
@@ -238,18 +225,18 @@ fn front(buf: &[u8], feed: Feed) -> Ahead {
 // ---- A turn
 
 // Says that the input cannot be read; tells the status.
-fn unread() -> u8 {
-    os::fail(b"gir_batch: standard input");
+fn unread(rt: HostRuntime, error: Error) -> u8 {
+    streams::fail(rt, b"gir_batch: standard input", error);
     TROUBLE
 }
 
 // Writes the lines that wait, and waits for input.
-fn wait(buf: &mut [u8], begun: Feed, waiting: &[u8], number: u64) -> Going {
-    if !write_out(waiting) {
+fn wait(rt: HostRuntime, buf: &mut [u8], begun: Feed, waiting: &[u8], number: u64) -> Going {
+    if !write_out(rt, waiting) {
         return Going::Ended(TROUBLE);
     }
     let feed = moved(buf, begun);
-    match read_behind(buf, feed) {
+    match read_behind(rt, buf, feed) {
         Fed::More(then) => Going::On {
             feed: then,
             used: 0,
@@ -257,11 +244,11 @@ fn wait(buf: &mut [u8], begun: Feed, waiting: &[u8], number: u64) -> Going {
         },
         Fed::End => {
             if feed.at < feed.have {
-                return Going::Ended(broken(b"", number));
+                return Going::Ended(broken(rt, b"", number));
             }
             Going::Ended(ANSWERED)
         }
-        Fed::Failed => Going::Ended(unread()),
+        Fed::Failed(error) => Going::Ended(unread(rt, error)),
     }
 }
 
@@ -294,6 +281,7 @@ fn answer(
 
 // The same of a payload that is longer than what is kept of it: the rest is passed over first, with no line waiting.
 fn answer_long(
+    rt: HostRuntime,
     buf: &[u8],
     feed: Feed,
     n: usize,
@@ -304,18 +292,19 @@ fn answer_long(
     used: usize,
     number: u64,
 ) -> Going {
-    if !write_out(octets::part(out, 0, used)) {
+    if !write_out(rt, octets::part(out, 0, used)) {
         return Going::Ended(TROUBLE);
     }
-    match skip(n - octets::least(kept, n)) {
+    match skip(rt, n - octets::least(kept, n)) {
         Skipped::All => answer(buf, feed, n, kept, sheet, list, out, 0, number),
-        Skipped::End => Going::Ended(broken(b"", number)),
-        Skipped::Failed => Going::Ended(unread()),
+        Skipped::End => Going::Ended(broken(rt, b"", number)),
+        Skipped::Failed(error) => Going::Ended(unread(rt, error)),
     }
 }
 
 // One turn: a record is answered, or lines are written and more is read.
 fn turn(
+    rt: HostRuntime,
     buf: &mut [u8],
     feed: Feed,
     sheet: &mut [u8],
@@ -325,17 +314,17 @@ fn turn(
     number: u64,
 ) -> Going {
     match front(buf, feed) {
-        Ahead::Part => wait(buf, feed, octets::part(out, 0, used), number),
-        Ahead::NoJob => Going::Ended(broken(octets::part(out, 0, used), number)),
+        Ahead::Part => wait(rt, buf, feed, octets::part(out, 0, used), number),
+        Ahead::NoJob => Going::Ended(broken(rt, octets::part(out, 0, used), number)),
         Ahead::Record { n, kept } => {
             if kept < n {
-                return answer_long(buf, feed, n, kept, sheet, list, out, used, number);
+                return answer_long(rt, buf, feed, n, kept, sheet, list, out, used, number);
             }
             // the longest line has room behind those that wait
             if printing::LONGEST_LINE <= out.len() - octets::least(used, out.len()) {
                 return answer(buf, feed, n, kept, sheet, list, out, used, number);
             }
-            if !write_out(octets::part(out, 0, used)) {
+            if !write_out(rt, octets::part(out, 0, used)) {
                 return Going::Ended(TROUBLE);
             }
             answer(buf, feed, n, kept, sheet, list, out, 0, number)
@@ -372,7 +361,7 @@ fn line_buffer() -> [u8; 120670]
 }
 
 // Answers the records of standard input; tells the status.
-fn answer_all() -> u8 {
+fn answer_all(rt: HostRuntime) -> u8 {
     let mut input = input_buffer();
     let buf: &mut [u8] = &mut input;
     let mut octets = sheet_buffer();
@@ -384,9 +373,8 @@ fn answer_all() -> u8 {
     let mut feed = Feed { at: 0, have: 0 };
     let mut used: usize = 0;
     let mut number: u64 = 0;
-    let mut turns = u64::MAX;
-    while turns > 0 {
-        match turn(buf, feed, sheet, list, out, used, number) {
+    for _ in 0..u64::MAX {
+        match turn(rt, buf, feed, sheet, list, out, used, number) {
             Going::On {
                 feed: then,
                 used: waiting,
@@ -395,7 +383,6 @@ fn answer_all() -> u8 {
                 feed = then;
                 used = waiting;
                 number = next;
-                turns -= 1;
             }
             Going::Ended(status) => {
                 return status;
@@ -405,33 +392,23 @@ fn answer_all() -> u8 {
     TROUBLE
 }
 
-// Whether an argument is this word.
-fn is_word(i: usize, word: &[u8]) -> bool {
-    let mut text = [0u8; 16];
-    let n = os::arg(i, &mut text);
-    if os::errno() != 0 {
-        return false;
-    }
-    octets::equal(octets::part(&text, 0, n), word)
-}
-
 // Answers where there is no argument behind the first so many; tells the status.
-fn answer_arguments(passed: usize) -> u8 {
-    if os::arg_count() <= passed {
-        return answer_all();
+fn answer_arguments(rt: HostRuntime, passed: usize) -> u8 {
+    if streams::argument_count(rt) <= passed {
+        return answer_all(rt);
     }
-    io::write_all(
-        STDERR_FILENO,
+    streams::say(
+        rt,
         b"gir_batch: records on standard input, and no argument but --status\n",
     );
     TROUBLE
 }
 
-fn main() {
-    if is_word(1, b"--status") {
-        let status = answer_arguments(2);
-        io::write_all(STATUS_FILENO, &[octets::digit_text(status)]);
+fn main(rt: HostRuntime) {
+    if streams::is_word(rt, 1, b"--status") {
+        let status = answer_arguments(rt, 2);
+        streams::tell(octets::digit_text(status));
         return;
     }
-    answer_arguments(1);
+    answer_arguments(rt, 1);
 }

@@ -6,11 +6,14 @@
 #![tactic(auto)]
 
 ghost use Rattle.std.specs.Prelude.{◌≤◌};
+ghost use Rattle.std.specs.Io.{ReadsAtMost};
 
 use desk::{Reading, Refusal, Writing};
 use filing::{Answer, Line, Outcome, Pair, Step};
-use libc::{STDERR_FILENO, STDIN_FILENO, STDOUT_FILENO};
 use lines::Text;
+use std::fs;
+use std::fs::{File, OpenOptions};
+use std::io::{Error, ErrorKind, Print, Read, Result, Write};
 
 // Room for kind octet, flags octet and area: the 4,077th octet of an area is enough to know that it is too long.
 const PAYLOAD: usize = 3 + desk::LONGEST_AREA;
@@ -18,8 +21,12 @@ const PAYLOAD: usize = 3 + desk::LONGEST_AREA;
 // Room for the longest sheet as it is read back, and for one octet more than it should have.
 const READ_BACK: usize = 1 + desk::LONGEST_SHEET;
 
-// The descriptor that a status is written to.
-const STATUS_FILENO: i32 = 3;
+// The system's errors where nothing stands at a path, where what stands there is no link, and where no file is open.
+const ENOENT: i32 = 2;
+
+const EINVAL: i32 = 22;
+
+const EBADF: i32 = 9;
 
 // An answer line, and what it tells.
 #[derive(Drop)]
@@ -28,11 +35,11 @@ struct Said {
     outcome: Outcome,
 }
 
-// What a run carries from step to step: the descriptor that is open, the octets taken, the octets of the whole of IN, the octets of the
+// What a run carries from step to step: the temporary file while it is open, the octets taken, the octets of the whole of IN, the octets of the
 // sheet, and the answer, once something has failed.
 #[derive(Drop)]
 struct Work {
-    fd: i32,
+    file: Option<File>,
     kept: usize,
     all: u64,
     sheet: usize,
@@ -46,26 +53,11 @@ struct Done {
     work: Work,
 }
 
-// What a descriptor gives, read to a buffer's end or to its own.
+// The octets of IN that are kept, and those of the whole of it.
 #[derive(Drop)]
-enum Filled {
-    Octets(usize),
-    Failed,
-}
-
-// What one more read gives.
-#[derive(Drop)]
-enum Chunk {
-    Octets(u64),
-    End,
-    Failed,
-}
-
-// The octets of the whole of IN, or that a read failed.
-#[derive(Drop)]
-enum Counted {
-    All(u64),
-    Failed,
+struct Taken {
+    kept: usize,
+    all: u64,
 }
 
 // What stands at a path: nothing, a link, a folder, something else, or the system does not say.
@@ -75,11 +67,11 @@ enum AtPath {
     Link,
     Folder,
     Other,
-    Unknown,
+    Unknown(Error),
 }
 
 // How far the octets that were read of standard input are used.
-#[derive(Drop)]
+#[derive(Clone, Copy)]
 struct Feed {
     at: usize,
     have: usize,
@@ -90,7 +82,7 @@ struct Feed {
 enum Fed {
     Octet { value: u8, feed: Feed },
     End,
-    Failed,
+    Failed(Error),
 }
 
 // The next line or name of standard input: its octets, or that what ends it is missing, or that there is none.
@@ -99,7 +91,7 @@ enum Lined {
     Whole { len: usize, feed: Feed },
     Cut,
     End,
-    Failed,
+    Failed(Error),
 }
 
 // How it goes on behind an answer: standard output took it, or takes no more.
@@ -151,34 +143,34 @@ fn refused(refusal: Refusal, all: u64) -> Said {
 }
 
 // Says on standard error which step failed, at which file, and the system's reason.
-fn fail(word: &[u8], name: &[u8]) {
-    io::write_all(STDERR_FILENO, b"gir_file: ");
-    io::write_all(STDERR_FILENO, word);
-    io::write_all(STDERR_FILENO, b": ");
-    os::fail(name);
+fn fail(rt: HostRuntime, word: &[u8], name: &[u8], error: Error) {
+    streams::say(rt, b"gir_file: ");
+    streams::say(rt, word);
+    streams::say(rt, b": ");
+    streams::fail(rt, name, error);
 }
 
 // The same with a reason of our own.
-fn complain(word: &[u8], name: &[u8], reason: &[u8]) {
-    io::write_all(STDERR_FILENO, b"gir_file: ");
-    io::write_all(STDERR_FILENO, word);
-    io::write_all(STDERR_FILENO, b": ");
-    io::write_all(STDERR_FILENO, name);
-    io::write_all(STDERR_FILENO, b": ");
-    io::write_all(STDERR_FILENO, reason);
-    io::write_all(STDERR_FILENO, b"\n");
+fn complain(rt: HostRuntime, word: &[u8], name: &[u8], reason: &[u8]) {
+    streams::say(rt, b"gir_file: ");
+    streams::say(rt, word);
+    streams::say(rt, b": ");
+    streams::say(rt, name);
+    streams::say(rt, b": ");
+    streams::say(rt, reason);
+    streams::say(rt, b"\n");
 }
 
 // Writes an answer's line.
-fn print(said: Said) -> Told {
+fn print(rt: HostRuntime, said: Said) -> Told {
     let line = said.line;
     let outcome = said.outcome;
     let text = line.octets;
-    if io::write_all(STDOUT_FILENO, octets::part(&text, 0, line.len)) {
-        return Told::On(outcome);
+    if let Err(error) = rt.write_all(octets::part(&text, 0, line.len)) {
+        fail(rt, b"answer", b"standard output", error);
+        return Told::Stop;
     }
-    fail(b"answer", b"standard output");
-    Told::Stop
+    Told::On(outcome)
 }
 
 // ---- How a step went
@@ -200,128 +192,70 @@ fn badly(mut work: Work, said: Said) -> Done {
 }
 
 // A step that failed for the system's reason.
-fn failed(work: Work, word: &[u8], name: &[u8]) -> Done {
-    fail(word, name);
+fn failed(rt: HostRuntime, work: Work, word: &[u8], name: &[u8], error: Error) -> Done {
+    fail(rt, word, name, error);
     badly(work, trouble(word))
 }
 
 // A step that failed for a reason of our own.
-fn wrong(work: Work, word: &[u8], name: &[u8], reason: &[u8]) -> Done {
-    complain(word, name, reason);
+fn wrong(rt: HostRuntime, work: Work, word: &[u8], name: &[u8], reason: &[u8]) -> Done {
+    complain(rt, word, name, reason);
     badly(work, trouble(word))
 }
 
-// A step that clears up; where it fails, the answer stays what it is.
-fn cleared(ok: bool, work: Work, word: &[u8], name: &[u8]) -> Done {
-    if ok {
-        return well(work);
-    }
-    fail(word, name);
-    Done {
-        answer: Answer::Badly,
-        work,
+// How a step went that does something and has no more to tell.
+fn gone(rt: HostRuntime, went: Result<()>, work: Work, word: &[u8], name: &[u8]) -> Done {
+    match went {
+        Ok(()) => well(work),
+        Err(error) => failed(rt, work, word, name, error),
     }
 }
 
-fn with_fd(mut work: Work, fd: i32) -> Work {
-    work.fd = fd;
+// A step that clears up; where it fails, the answer stays what it is.
+fn cleared(rt: HostRuntime, went: Result<()>, work: Work, word: &[u8], name: &[u8]) -> Done {
+    match went {
+        Ok(()) => well(work),
+        Err(error) => {
+            fail(rt, word, name, error);
+            Done {
+                answer: Answer::Badly,
+                work,
+            }
+        }
+    }
+}
+
+// The same with another file open, or none; what was open is closed.
+fn with_file(mut work: Work, file: Option<File>) -> Work {
+    work.file = file;
     work
 }
 
-// ---- Reading files
-
-// One read into the buffer from a place on.
-fn read_at(fd: i32, buf: &mut [u8], at: usize) -> Filled {
-    if buf.len() < at {
-        return Filled::Octets(0);
-    }
-    let got = libc::read(fd, &mut buf[at..]);
-    if got < 0 {
-        return Filled::Failed;
-    }
-    Filled::Octets(io::count(got, &buf[at..]))
-}
-
-// Reads until the buffer is full or the file ends; unlike `io::read_full` it tells a failure from an end.
-fn fill(fd: i32, buf: &mut [u8]) -> Filled {
-    let mut at: usize = 0;
-    while at < buf.len() {
-        match read_at(fd, buf, at) {
-            Filled::Octets(got) => {
-                let n = octets::least(got, buf.len() - at);
-                if n == 0 {
-                    return Filled::Octets(at);
-                }
-                at += n;
-            }
-            Filled::Failed => {
-                return Filled::Failed;
-            }
-        }
-    }
-    Filled::Octets(at)
-}
-
-// Reads past what is kept, and tells how much came.
-fn more(fd: i32) -> Chunk {
-    let mut buf = io::buffer();
-    let got = libc::read(fd, &mut buf);
-    if got < 0 {
-        return Chunk::Failed;
-    }
-    let n = io::count(got, &buf);
-    if n == 0 {
-        return Chunk::End;
-    }
-    Chunk::Octets(n as u64)
-}
-
-// Counts a file to its end, with the octets had already; at most the largest 64-bit number.
-fn count(fd: i32, had: u64) -> Counted {
-    let mut total = had;
-    let mut turns = u64::MAX;
-    while turns > 0 {
-        match more(fd) {
-            Chunk::Octets(n) => {
-                if n > u64::MAX - total {
-                    return Counted::All(u64::MAX);
-                }
-                total += n;
-                turns -= 1;
-            }
-            Chunk::End => {
-                return Counted::All(total);
-            }
-            Chunk::Failed => {
-                return Counted::Failed;
-            }
-        }
-    }
-    Counted::All(total)
+// The error of a file that is not open.
+fn not_open() -> Error {
+    Error::from_raw_os_error(EBADF)
 }
 
 // ---- The steps
 
+// Reads IN, or as much of it as decides the answer, and its length.
+fn take_from(rt: HostRuntime, input: &[u8], payload: &mut [u8]) -> Result<Taken> {
+    let mut file = streams::open(rt, input)?;
+    let kept = streams::fill(&mut file, payload)?;
+    let all = streams::count(&mut file, kept as u64)?;
+    Ok(Taken { kept, all })
+}
+
 // Take: IN, or as much of it as decides the answer, and its length; the 4,077th octet of an area is enough to know that it is too long.
-fn take(input: &[u8], payload: &mut [u8], mut work: Work) -> Done {
-    let fd = os::open_read(input);
-    if fd < 0 {
-        return failed(work, b"in", input);
+fn take(rt: HostRuntime, input: &[u8], payload: &mut [u8], mut work: Work) -> Done {
+    match take_from(rt, input, payload) {
+        Ok(taken) => {
+            work.kept = taken.kept;
+            work.all = taken.all;
+            well(work)
+        }
+        Err(error) => failed(rt, work, b"in", input, error),
     }
-    let Filled::Octets(kept) = fill(fd, payload) else {
-        let done = failed(work, b"in", input);
-        libc::close(fd);
-        return done;
-    };
-    let Counted::All(all) = count(fd, kept as u64) else {
-        let done = failed(work, b"in", input);
-        libc::close(fd);
-        return done;
-    };
-    libc::close(fd);
-    work.kept = kept;
-    work.all = all;
-    well(work)
 }
 
 // Read: the sheet of the area.
@@ -337,13 +271,14 @@ fn make_sheet(taken: &[u8], sheet: &mut [u8], mut work: Work) -> Done {
             return well(work);
         }
         Reading::Refused(refusal) => {
-            return badly(work, refused(refusal, work.all));
+            let said = refused(refusal, work.all);
+            return badly(work, said);
         }
     }
 }
 
 // Return: the sheet gives back what was taken.
-fn go_back(input: &[u8], taken: &[u8], sheet: &[u8], work: Work) -> Done {
+fn go_back(rt: HostRuntime, input: &[u8], taken: &[u8], sheet: &[u8], work: Work) -> Done {
     let mut area = [0u8; desk::LONGEST_AREA];
     match desk::write(sheet, &mut area) {
         Writing::Area {
@@ -354,165 +289,194 @@ fn go_back(input: &[u8], taken: &[u8], sheet: &[u8], work: Work) -> Done {
             if filing::came_back(taken, kind, flags, octets::part(&area, 0, length)) {
                 return well(work);
             }
-            return wrong(work, b"return", input, b"its sheet gives another area");
+            return wrong(rt, work, b"return", input, b"its sheet gives another area");
         }
         Writing::Refused(_) => {
-            return wrong(work, b"return", input, b"its sheet gives no area");
+            return wrong(rt, work, b"return", input, b"its sheet gives no area");
         }
     }
 }
 
-// A path with the 0 that ends it.
-fn ended(path: &[u8]) -> [u8; 4096] {
-    let mut text = io::buffer();
-    octets::copy_at(&mut text, 0, path);
-    text
+// Asks whether a path is a link: the system's error where it is none.
+fn link_at(rt: HostRuntime, path: &[u8]) -> Option<Error> {
+    let text = match streams::path(path) {
+        Ok(text) => text,
+        Err(error) => return Some(error),
+    };
+    match fs::read_link(&rt, text) {
+        Ok(_) => None,
+        Err(error) => {
+            if error.raw_os_error().is_some() {
+                return Some(error);
+            }
+            // The system has told the link's text, which is no path here.
+            None
+        }
+    }
 }
 
 // Whether a folder stands at a path that is no link. Only the words of a message depend on it. What is behind a slash is a folder's own
 // name in a folder, and in anything else there is none.
-fn is_folder(path: &[u8]) -> bool {
-    let mut text = ended(path);
-    octets::copy_at(&mut text, path.len(), b"/.");
-    text[4095] = 0;
-    let mut link = [0u8; 1];
-    if libc::readlink(&text, &mut link) >= 0 {
-        return false;
+fn is_folder(rt: HostRuntime, path: &[u8]) -> bool {
+    let mut text = [0u8; 4096];
+    let at = put(&mut text, 0, path);
+    let n = put(&mut text, at, b"/.");
+    match link_at(rt, octets::part(&text, 0, n)) {
+        Some(error) => error.raw_os_error() == Some(EINVAL),
+        None => false,
     }
-    os::errno() == libc::EINVAL
 }
 
-// What stands at a path. The question is put by `readlink`, which follows no link: EINVAL is its answer for what is no link.
-fn what_stands(path: &[u8]) -> AtPath {
-    let mut text = ended(path);
-    text[4095] = 0;
-    let mut link = [0u8; 1];
-    let got = libc::readlink(&text, &mut link);
-    if got >= 0 {
+// What stands at a path. The question is put by `read_link`, which follows no link: EINVAL is its answer for what is no link.
+fn what_stands(rt: HostRuntime, path: &[u8]) -> AtPath {
+    let Some(error) = link_at(rt, path) else {
         return AtPath::Link;
-    }
-    let error = os::errno();
-    if error == libc::ENOENT {
+    };
+    if error.raw_os_error() == Some(ENOENT) {
         return AtPath::Nothing;
     }
-    if error == libc::EINVAL {
-        if is_folder(path) {
+    if error.raw_os_error() == Some(EINVAL) {
+        if is_folder(rt, path) {
             return AtPath::Folder;
         }
         return AtPath::Other;
     }
-    AtPath::Unknown
+    AtPath::Unknown(error)
 }
 
 // Look, LookAgain: nothing stands at OUT.
-fn look(out: &[u8], work: Work) -> Done {
-    match what_stands(out) {
+fn look(rt: HostRuntime, out: &[u8], work: Work) -> Done {
+    match what_stands(rt, out) {
         AtPath::Nothing => well(work),
-        AtPath::Link => wrong(work, b"out", out, b"a link of this name stands already"),
-        AtPath::Folder => wrong(work, b"out", out, b"a folder of this name stands already"),
-        AtPath::Other => wrong(work, b"out", out, b"a file of this name stands already"),
-        AtPath::Unknown => failed(work, b"out", out),
+        AtPath::Link => wrong(rt, work, b"out", out, b"a link of this name stands already"),
+        AtPath::Folder => wrong(
+            rt,
+            work,
+            b"out",
+            out,
+            b"a folder of this name stands already",
+        ),
+        AtPath::Other => wrong(rt, work, b"out", out, b"a file of this name stands already"),
+        AtPath::Unknown(error) => failed(rt, work, b"out", out, error),
     }
+}
+
+// A file that is new, for writing; no link is followed.
+fn create_new(rt: HostRuntime, name: &[u8]) -> Result<File> {
+    OpenOptions::new()
+        .write(true)
+        .create_new(true)
+        .open(&rt, streams::path(name)?)
 }
 
 // Create: the temporary file, new.
-fn create(temp: &[u8], work: Work) -> Done {
-    let fd = os::create(temp);
-    if fd < 0 {
-        return failed(work, b"create", temp);
+fn create(rt: HostRuntime, temp: &[u8], work: Work) -> Done {
+    match create_new(rt, temp) {
+        Ok(file) => well(with_file(work, Some(file))),
+        Err(error) => failed(rt, work, b"create", temp, error),
     }
-    well(with_fd(work, fd))
+}
+
+// Writes octets into the open file, whole.
+fn write_file(file: &mut Option<File>, s: &[u8]) -> Result<()> {
+    match file {
+        Some(open) => open.write_all(s),
+        None => Err(not_open()),
+    }
 }
 
 // Write: the sheet, whole.
-fn write(temp: &[u8], sheet: &[u8], work: Work) -> Done {
-    if io::write_all(work.fd, sheet) {
-        return well(work);
+fn write(rt: HostRuntime, temp: &[u8], sheet: &[u8], mut work: Work) -> Done {
+    let went = write_file(&mut work.file, sheet);
+    gone(rt, went, work, b"write", temp)
+}
+
+// Waits until the open file is on the disk.
+fn sync_file(file: &Option<File>) -> Result<()> {
+    match file {
+        Some(open) => open.sync_all(),
+        None => Err(not_open()),
     }
-    failed(work, b"write", temp)
 }
 
 // Sync: the temporary file is on the disk.
-fn sync(temp: &[u8], work: Work) -> Done {
-    if libc::fsync(work.fd) < 0 {
-        return failed(work, b"sync", temp);
-    }
-    well(work)
+fn sync(rt: HostRuntime, temp: &[u8], work: Work) -> Done {
+    let went = sync_file(&work.file);
+    gone(rt, went, work, b"sync", temp)
 }
 
-// Close: the temporary file.
-fn close(temp: &[u8], work: Work) -> Done {
-    if libc::close(work.fd) < 0 {
-        return failed(work, b"close", temp);
-    }
-    well(work)
+// Close: the temporary file. What std closes tells no error: the file is synced already, and is compared when it is opened again.
+fn close(work: Work) -> Done {
+    well(with_file(work, None))
 }
 
 // Open: the temporary file again.
-fn open(temp: &[u8], work: Work) -> Done {
-    let fd = os::open_read(temp);
-    if fd < 0 {
-        return failed(work, b"open", temp);
+fn open(rt: HostRuntime, temp: &[u8], work: Work) -> Done {
+    match streams::open(rt, temp) {
+        Ok(file) => well(with_file(work, Some(file))),
+        Err(error) => failed(rt, work, b"open", temp, error),
     }
-    well(with_fd(work, fd))
+}
+
+// Reads the open file into a buffer.
+fn read_file(file: &mut Option<File>, buf: &mut [u8]) -> Result<usize>
+    ensures { ReadsAtMost result buf.new }
+{
+    match file {
+        Some(open) => streams::fill(open, buf),
+        None => Err(not_open()),
+    }
 }
 
 // Compare: what is there is the sheet, no octet more and none less; closes the file.
-fn compare(temp: &[u8], sheet: &[u8], work: Work) -> Done {
+fn compare(rt: HostRuntime, temp: &[u8], sheet: &[u8], mut work: Work) -> Done {
     let mut back = [0u8; READ_BACK];
-    let Filled::Octets(n) = fill(work.fd, &mut back) else {
-        let done = failed(work, b"compare", temp);
-        libc::close(work.fd);
-        return done;
+    let went = read_file(&mut work.file, &mut back);
+    let closed = with_file(work, None);
+    let n = match went {
+        Ok(n) => n,
+        Err(error) => return failed(rt, closed, b"compare", temp, error),
     };
-    libc::close(work.fd);
     if octets::equal(octets::part(&back, 0, n), sheet) {
-        return well(work);
+        return well(closed);
     }
     wrong(
-        work,
+        rt,
+        closed,
         b"compare",
         temp,
         b"it holds something else than the sheet",
     )
 }
 
-// Whether the folder of a path is on the disk.
-fn folder_synced(folder: &[u8]) -> bool {
-    let fd = os::open_read(folder);
-    if fd < 0 {
-        return false;
-    }
-    if libc::fsync(fd) < 0 {
-        libc::close(fd);
-        return false;
-    }
-    libc::close(fd);
-    true
+// Waits until the folder of a path is on the disk.
+fn folder_synced(rt: HostRuntime, folder: &[u8]) -> Result<()> {
+    streams::open(rt, folder)?.sync_all()
 }
 
 // SyncName, SyncFolder: OUT's folder is on the disk, with the names in it.
-fn sync_folder(out: &[u8], work: Work, word: &[u8]) -> Done {
+fn sync_folder(rt: HostRuntime, out: &[u8], work: Work, word: &[u8]) -> Done {
     let n = filing::folder_len(out);
     if n == 0 {
-        if folder_synced(b".") {
-            return well(work);
-        }
-        return failed(work, word, b".");
+        return gone(rt, folder_synced(rt, b"."), work, word, b".");
     }
     let folder = octets::part(out, 0, n);
-    if folder_synced(folder) {
-        return well(work);
-    }
-    failed(work, word, folder)
+    gone(rt, folder_synced(rt, folder), work, word, folder)
+}
+
+// Gives a file another name.
+fn renamed(rt: HostRuntime, from: &[u8], to: &[u8]) -> Result<()> {
+    fs::rename(&rt, streams::path(from)?, streams::path(to)?)
 }
 
 // Rename: the temporary file gets the name OUT.
-fn rename(temp: &[u8], out: &[u8], work: Work) -> Done {
-    if os::rename(temp, out) < 0 {
-        return failed(work, b"rename", out);
-    }
-    well(work)
+fn rename(rt: HostRuntime, temp: &[u8], out: &[u8], work: Work) -> Done {
+    gone(rt, renamed(rt, temp, out), work, b"rename", out)
+}
+
+// Removes a file.
+fn removed(rt: HostRuntime, name: &[u8]) -> Result<()> {
+    fs::remove_file(&rt, streams::path(name)?)
 }
 
 // Puts octets behind what a buffer holds, where they fit, and tells where they end.
@@ -534,12 +498,13 @@ fn put_kept(temp: &[u8], name: &mut [u8]) -> usize {
 }
 
 // Withdraw: the sheet at OUT gets the name under which it is kept, if that is free.
-fn withdraw(temp: &[u8], out: &[u8], work: Work) -> Done {
-    let mut space = io::buffer();
+fn withdraw(rt: HostRuntime, temp: &[u8], out: &[u8], work: Work) -> Done {
+    let mut space = [0u8; 4096];
     let n = put_kept(temp, &mut space);
     let kept = octets::part(&space, 0, n);
-    let AtPath::Nothing = what_stands(kept) else {
+    let AtPath::Nothing = what_stands(rt, kept) else {
         complain(
+            rt,
             b"withdraw",
             out,
             b"it stays, since the name to keep it under is not free",
@@ -549,15 +514,16 @@ fn withdraw(temp: &[u8], out: &[u8], work: Work) -> Done {
             work,
         };
     };
-    if os::rename(out, kept) < 0 {
-        return cleared(false, work, b"withdraw", out);
+    if let Err(error) = renamed(rt, out, kept) {
+        return cleared(rt, Err(error), work, b"withdraw", out);
     }
-    complain(b"withdraw", kept, b"the whole sheet is kept here");
+    complain(rt, b"withdraw", kept, b"the whole sheet is kept here");
     well(work)
 }
 
 // Performs a step.
 fn perform(
+    rt: HostRuntime,
     step: Step,
     input: &[u8],
     out: &[u8],
@@ -569,28 +535,29 @@ fn perform(
     let kept = work.kept;
     let len = work.sheet;
     match step {
-        Step::Take => take(input, payload, work),
+        Step::Take => take(rt, input, payload, work),
         Step::Read => make_sheet(octets::part(payload, 0, kept), sheet, work),
         Step::Return => go_back(
+            rt,
             input,
             octets::part(payload, 0, kept),
             octets::part(sheet, 0, len),
             work,
         ),
-        Step::Look => look(out, work),
-        Step::Create => create(temp, work),
-        Step::Write => write(temp, octets::part(sheet, 0, len), work),
-        Step::Sync => sync(temp, work),
-        Step::Close => close(temp, work),
-        Step::Open => open(temp, work),
-        Step::Compare => compare(temp, octets::part(sheet, 0, len), work),
-        Step::SyncName => sync_folder(out, work, b"name"),
-        Step::LookAgain => look(out, work),
-        Step::Rename => rename(temp, out, work),
-        Step::SyncFolder => sync_folder(out, work, b"folder"),
-        Step::Abandon => cleared(libc::close(work.fd) >= 0, work, b"close", temp),
-        Step::Remove => cleared(os::unlink(temp) >= 0, work, b"remove", temp),
-        Step::Withdraw => withdraw(temp, out, work),
+        Step::Look => look(rt, out, work),
+        Step::Create => create(rt, temp, work),
+        Step::Write => write(rt, temp, octets::part(sheet, 0, len), work),
+        Step::Sync => sync(rt, temp, work),
+        Step::Close => close(work),
+        Step::Open => open(rt, temp, work),
+        Step::Compare => compare(rt, temp, octets::part(sheet, 0, len), work),
+        Step::SyncName => sync_folder(rt, out, work, b"name"),
+        Step::LookAgain => look(rt, out, work),
+        Step::Rename => rename(rt, temp, out, work),
+        Step::SyncFolder => sync_folder(rt, out, work, b"folder"),
+        Step::Abandon => close(work),
+        Step::Remove => cleared(rt, removed(rt, temp), work, b"remove", temp),
+        Step::Withdraw => withdraw(rt, temp, out, work),
         Step::Filed => well(work),
         Step::Failed => well(work),
         Step::Kept => well(work),
@@ -598,11 +565,11 @@ fn perform(
 }
 
 // Files one sheet, step by step, and tells its answer.
-fn file(input: &[u8], out: &[u8], temp: &[u8]) -> Said {
+fn file(rt: HostRuntime, input: &[u8], out: &[u8], temp: &[u8]) -> Said {
     let mut payload = [0u8; PAYLOAD];
     let mut sheet = [0u8; desk::LONGEST_SHEET];
     let mut work = Work {
-        fd: -1,
+        file: None,
         kept: 0,
         all: 0,
         sheet: 0,
@@ -613,7 +580,7 @@ fn file(input: &[u8], out: &[u8], temp: &[u8]) -> Said {
     };
     let mut step = Step::Take;
     while filing::steps_left(step) > 0 {
-        let done = perform(step, input, out, temp, &mut payload, &mut sheet, work);
+        let done = perform(rt, step, input, out, temp, &mut payload, &mut sheet, work);
         let answer = done.answer;
         let carried = done.work;
         step = filing::next(step, answer);
@@ -626,26 +593,26 @@ fn file(input: &[u8], out: &[u8], temp: &[u8]) -> Said {
 }
 
 // Files the sheet of IN at OUT and prints the answer.
-fn answer(input: &[u8], out: &[u8]) -> Told {
-    let mut name = io::buffer();
+fn answer(rt: HostRuntime, input: &[u8], out: &[u8]) -> Told {
+    let mut name = [0u8; 4096];
     let n = filing::temporary(out, &mut name);
-    print(file(input, out, octets::part(&name, 0, n)))
+    print(rt, file(rt, input, out, octets::part(&name, 0, n)))
 }
 
 // ---- Two names
 
 // Says what is wrong with a line or a name, and answers it.
-fn no_names(name: &[u8], reason: &[u8]) -> Told {
-    complain(b"names", name, reason);
-    print(trouble(b"names"))
+fn no_names(rt: HostRuntime, name: &[u8], reason: &[u8]) -> Told {
+    complain(rt, b"names", name, reason);
+    print(rt, trouble(b"names"))
 }
 
 // Answers two names of which one is empty.
-fn no_name(input: &[u8], out: &[u8]) -> Told {
+fn no_name(rt: HostRuntime, input: &[u8], out: &[u8]) -> Told {
     if input.len() == 0 {
-        return no_names(out, b"an empty name");
+        return no_names(rt, out, b"an empty name");
     }
-    no_names(input, b"an empty name")
+    no_names(rt, input, b"an empty name")
 }
 
 // A name without its last octet.
@@ -657,31 +624,32 @@ fn but_last(name: &[u8]) -> &[u8] {
 }
 
 // Answers two names of which one ends in a carriage return. The message is without it, since it would hide what stands before it.
-fn returned(input: &[u8], out: &[u8]) -> Told {
+fn returned(rt: HostRuntime, input: &[u8], out: &[u8]) -> Told {
     let reason = b"a name ends in a carriage return, as in a list with CR LF line ends";
     if filing::ends_in_return(out) {
-        return no_names(but_last(out), reason);
+        return no_names(rt, but_last(out), reason);
     }
-    no_names(but_last(input), reason)
+    no_names(rt, but_last(input), reason)
 }
 
 // Answers two names, which may end in a carriage return where they come exactly.
-fn answer_pair(input: &[u8], out: &[u8], exact: bool) -> Told {
+fn answer_pair(rt: HostRuntime, input: &[u8], out: &[u8], exact: bool) -> Told {
     match filing::judge_pair(input, out, exact) {
-        Pair::Fit => answer(input, out),
-        Pair::NoName => no_name(input, out),
-        Pair::ZeroOctet => no_names(input, b"an octet 0 in a name"),
-        Pair::TooLong => no_names(b"IN or OUT", b"a name is too long"),
-        Pair::CarriageReturn => returned(input, out),
+        Pair::Fit => answer(rt, input, out),
+        Pair::NoName => no_name(rt, input, out),
+        Pair::ZeroOctet => no_names(rt, input, b"an octet 0 in a name"),
+        Pair::TooLong => no_names(rt, b"IN or OUT", b"a name is too long"),
+        Pair::CarriageReturn => returned(rt, input, out),
     }
 }
 
 // Answers a line of the list.
-fn record(line: &[u8]) -> Told {
+fn record(rt: HostRuntime, line: &[u8]) -> Told {
     match filing::split(line) {
         Line::Names(tab) => {
             if tab < line.len() {
                 return answer_pair(
+                    rt,
                     octets::part(line, 0, tab),
                     octets::part(line, tab + 1, line.len()),
                     false,
@@ -689,15 +657,15 @@ fn record(line: &[u8]) -> Told {
             }
             return Told::Stop;
         }
-        Line::NoTab => no_names(line, b"no tab stands between two names"),
-        Line::TwoTabs => no_names(line, b"more than one tab"),
+        Line::NoTab => no_names(rt, line, b"no tab stands between two names"),
+        Line::TwoTabs => no_names(rt, line, b"more than one tab"),
     }
 }
 
 // ---- Names from standard input
 
 // The next octet of standard input, read ahead by the buffer's length.
-fn octet(buf: &mut [u8], feed: Feed) -> Fed {
+fn octet(rt: HostRuntime, buf: &mut [u8], feed: Feed) -> Fed {
     let at = feed.at;
     let have = feed.have;
     if at < have {
@@ -708,35 +676,29 @@ fn octet(buf: &mut [u8], feed: Feed) -> Fed {
             };
         }
     }
-    let got = libc::read(STDIN_FILENO, buf);
-    if got < 0 {
-        return Fed::Failed;
-    }
-    let n = io::count(got, buf);
-    if n == 0 {
-        return Fed::End;
-    }
-    Fed::Octet {
-        value: buf[0],
-        feed: Feed { at: 1, have: n },
+    match rt.stdin().read(buf) {
+        Ok(0) => Fed::End,
+        Ok(n) => Fed::Octet {
+            value: buf[0],
+            feed: Feed { at: 1, have: n },
+        },
+        Err(error) => Fed::Failed(error),
     }
 }
 
 // The next octets of standard input up to the octet that ends them, and without it. Of those that are more than there is room, and so no
 // names, the first are kept.
-fn next_line(buf: &mut [u8], start: Feed, line: &mut [u8], end: u8) -> Lined {
+fn next_line(rt: HostRuntime, buf: &mut [u8], start: Feed, line: &mut [u8], end: u8) -> Lined {
     let mut feed = start;
     let mut len: usize = 0;
-    let mut turns = u64::MAX;
-    while turns > 0 {
-        match octet(buf, feed) {
+    for _ in 0..u64::MAX {
+        match octet(rt, buf, feed) {
             Fed::Octet { value, feed: then } => {
                 if value == end {
                     return Lined::Whole { len, feed: then };
                 }
                 len = put(line, len, &[value]);
                 feed = then;
-                turns -= 1;
             }
             Fed::End => {
                 if len == 0 {
@@ -744,12 +706,12 @@ fn next_line(buf: &mut [u8], start: Feed, line: &mut [u8], end: u8) -> Lined {
                 }
                 return Lined::Cut;
             }
-            Fed::Failed => {
-                return Lined::Failed;
+            Fed::Failed(error) => {
+                return Lined::Failed(error);
             }
         }
     }
-    Lined::Failed
+    Lined::Failed(Error::from(ErrorKind::FileTooLarge))
 }
 
 // Behind an answer it goes on, as long as standard output takes them.
@@ -761,77 +723,91 @@ fn onward(told: Told, feed: Feed) -> Turn {
 }
 
 // The last that is there names no two files.
-fn cut(name: &[u8], reason: &[u8]) -> Turn {
-    no_names(name, reason);
+fn cut(rt: HostRuntime, name: &[u8], reason: &[u8]) -> Turn {
+    no_names(rt, name, reason);
     Turn::Over(Outcome::Trouble)
 }
 
 // Standard input cannot be read.
-fn unread() -> Turn {
-    fail(b"names", b"standard input");
+fn unread(rt: HostRuntime, error: Error) -> Turn {
+    fail(rt, b"names", b"standard input", error);
     Turn::Over(Outcome::Trouble)
 }
 
 // Answers the next line.
-fn line_turn(buf: &mut [u8], start: Feed, line: &mut [u8]) -> Turn {
-    match next_line(buf, start, line, b'\n') {
-        Lined::Whole { len, feed } => onward(record(octets::part(line, 0, len)), feed),
-        Lined::Cut => cut(b"the last line", b"it has no line feed"),
+fn line_turn(rt: HostRuntime, buf: &mut [u8], start: Feed, line: &mut [u8]) -> Turn {
+    match next_line(rt, buf, start, line, b'\n') {
+        Lined::Whole { len, feed } => onward(record(rt, octets::part(line, 0, len)), feed),
+        Lined::Cut => cut(rt, b"the last line", b"it has no line feed"),
         Lined::End => Turn::Over(Outcome::Filed),
-        Lined::Failed => unread(),
+        Lined::Failed(error) => unread(rt, error),
     }
 }
 
 // Answers an IN and the OUT that comes next.
-fn out_turn(buf: &mut [u8], start: Feed, input: &[u8], out: &mut [u8]) -> Turn {
-    match next_line(buf, start, out, 0) {
+fn out_turn(rt: HostRuntime, buf: &mut [u8], start: Feed, input: &[u8], out: &mut [u8]) -> Turn {
+    match next_line(rt, buf, start, out, 0) {
         Lined::Whole { len, feed } => {
-            onward(answer_pair(input, octets::part(out, 0, len), true), feed)
+            onward(
+                answer_pair(rt, input, octets::part(out, 0, len), true),
+                feed,
+            )
         }
-        Lined::Cut => cut(b"the last name", b"it has no octet 0 behind it"),
-        Lined::End => cut(b"the last name", b"it is an IN without OUT"),
-        Lined::Failed => unread(),
+        Lined::Cut => cut(rt, b"the last name", b"it has no octet 0 behind it"),
+        Lined::End => cut(rt, b"the last name", b"it is an IN without OUT"),
+        Lined::Failed(error) => unread(rt, error),
     }
 }
 
 // Answers the next two names, each with an octet 0 behind it.
-fn pair_turn(buf: &mut [u8], start: Feed, input: &mut [u8], out: &mut [u8]) -> Turn {
-    match next_line(buf, start, input, 0) {
-        Lined::Whole { len, feed } => out_turn(buf, feed, octets::part(input, 0, len), out),
-        Lined::Cut => cut(b"the last name", b"it has no octet 0 behind it"),
+fn pair_turn(
+    rt: HostRuntime,
+    buf: &mut [u8],
+    start: Feed,
+    input: &mut [u8],
+    out: &mut [u8],
+) -> Turn {
+    match next_line(rt, buf, start, input, 0) {
+        Lined::Whole { len, feed } => out_turn(rt, buf, feed, octets::part(input, 0, len), out),
+        Lined::Cut => cut(rt, b"the last name", b"it has no octet 0 behind it"),
         Lined::End => Turn::Over(Outcome::Filed),
-        Lined::Failed => unread(),
+        Lined::Failed(error) => unread(rt, error),
     }
 }
 
 // Answers the next line, or the next two names where they come exactly.
-fn next_turn(buf: &mut [u8], feed: Feed, line: &mut [u8], out: &mut [u8], exact: bool) -> Turn {
+fn next_turn(
+    rt: HostRuntime,
+    buf: &mut [u8],
+    feed: Feed,
+    line: &mut [u8],
+    out: &mut [u8],
+    exact: bool,
+) -> Turn {
     if exact {
-        return pair_turn(buf, feed, line, out);
+        return pair_turn(rt, buf, feed, line, out);
     }
-    line_turn(buf, feed, line)
+    line_turn(rt, buf, feed, line)
 }
 
 // Answers the names of standard input, until it ends or standard output takes no more.
-fn answer_all(exact: bool) -> Outcome {
-    let mut space = io::large_buffer();
+fn answer_all(rt: HostRuntime, exact: bool) -> Outcome {
+    let mut space = streams::large_buffer();
     let buf: &mut [u8] = &mut space;
     let mut text = [0u8; 8192];
     let line: &mut [u8] = &mut text;
-    let mut name = io::buffer();
+    let mut name = [0u8; 4096];
     let out: &mut [u8] = &mut name;
     let mut feed = Feed { at: 0, have: 0 };
     let mut so_far = Outcome::Filed;
-    let mut turns = u64::MAX;
-    while turns > 0 {
-        match next_turn(buf, feed, line, out, exact) {
+    for _ in 0..u64::MAX {
+        match next_turn(rt, buf, feed, line, out, exact) {
             Turn::On {
                 outcome,
                 feed: then,
             } => {
                 so_far = filing::worse(so_far, outcome);
                 feed = then;
-                turns -= 1;
             }
             Turn::Over(outcome) => {
                 return filing::worse(so_far, outcome);
@@ -851,63 +827,62 @@ fn outcome_of(told: Told) -> Outcome {
     }
 }
 
-// Files the sheet of an argument at the next.
-fn answer_arguments(first: usize) -> Outcome
-    requires { first ≤ 2 }
-{
-    let mut input = io::buffer();
-    let n = os::arg(first, &mut input);
-    if os::errno() != 0 {
-        fail(b"names", b"IN");
-        return outcome_of(print(trouble(b"names")));
-    }
-    let mut out = io::buffer();
-    let m = os::arg(first + 1, &mut out);
-    if os::errno() != 0 {
-        fail(b"names", b"OUT");
-        return outcome_of(print(trouble(b"names")));
-    }
-    outcome_of(answer_pair(octets::part(&input, 0, n), octets::part(&out, 0, m), false))
+// Says that an argument cannot be had, and answers it.
+fn unnamed(rt: HostRuntime, which: &[u8], error: Error) -> Outcome {
+    fail(rt, b"names", which, error);
+    outcome_of(print(rt, trouble(b"names")))
 }
 
-// Whether an argument is a word of at most eight octets.
-fn is_word(i: usize, word: &[u8]) -> bool {
-    let mut space = [0u8; 8];
-    let n = os::arg(i, &mut space);
-    if os::errno() != 0 {
-        return false;
-    }
-    octets::equal(octets::part(&space, 0, n), word)
+// Files the sheet of an argument at the next.
+fn answer_arguments(rt: HostRuntime, first: usize) -> Outcome
+    requires { first ≤ 2 }
+{
+    let mut input = [0u8; 4096];
+    let n = match streams::argument(rt, first, &mut input) {
+        Ok(n) => n,
+        Err(error) => return unnamed(rt, b"IN", error),
+    };
+    let mut out = [0u8; 4096];
+    let m = match streams::argument(rt, first + 1, &mut out) {
+        Ok(m) => m,
+        Err(error) => return unnamed(rt, b"OUT", error),
+    };
+    outcome_of(answer_pair(
+        rt,
+        octets::part(&input, 0, n),
+        octets::part(&out, 0, m),
+        false,
+    ))
 }
 
 // Does what the arguments ask, of which so many stand before the names.
-fn answer_asked(before: usize) -> Outcome
+fn answer_asked(rt: HostRuntime, before: usize) -> Outcome
     requires { before ≤ 2 }
 {
-    let args = os::arg_count();
+    let args = streams::argument_count(rt);
     if args == before + 2 {
-        return answer_arguments(before);
+        return answer_arguments(rt, before);
     }
     if args == before + 1 {
-        if is_word(before, b"-") {
-            return answer_all(false);
+        if streams::is_word(rt, before, b"-") {
+            return answer_all(rt, false);
         }
-        if is_word(before, b"-z") {
-            return answer_all(true);
+        if streams::is_word(rt, before, b"-z") {
+            return answer_all(rt, true);
         }
     }
-    io::write_all(
-        STDERR_FILENO,
+    streams::say(
+        rt,
         b"gir_file: [--status] IN and OUT, or - or -z and names on standard input\n",
     );
     Outcome::Trouble
 }
 
-fn main() {
-    if is_word(1, b"--status") {
-        let outcome = answer_asked(2);
-        io::write_all(STATUS_FILENO, &[filing::digit(outcome)]);
+fn main(rt: HostRuntime) {
+    if streams::is_word(rt, 1, b"--status") {
+        let outcome = answer_asked(rt, 2);
+        streams::tell(filing::digit(outcome));
         return;
     }
-    answer_asked(1);
+    answer_asked(rt, 1);
 }

@@ -6,77 +6,19 @@
 
 ghost use Rattle.std.specs.Prelude.{◌≡◌, length};
 
-use libc::{STDERR_FILENO, STDIN_FILENO, STDOUT_FILENO};
+use std::io::{Error, Print, Read};
 
-// The descriptor that a status is written to: 0 written, 1 refused, 2 trouble.
-const STATUS_FILENO: i32 = 3;
-
+// The status where something could not be read or written. The others: 0 written, 1 refused.
 const TROUBLE: u8 = 2;
-
-// The octets of a sheet that are kept.
-const KEPT: usize = 1048576;
 
 // Room for kind octet, flags octet and area.
 const ANSWER: usize = 2 + desk::LONGEST_AREA;
 
-// What one more read of the input gives.
-#[derive(Drop)]
-enum Chunk {
-    Octets(u64),
-    End,
-    Failed,
-}
-
-// The octets of the whole input, or that a read failed.
-#[derive(Drop)]
-enum Counted {
-    All(u64),
-    Failed,
-}
-
 // Says on standard error what could not be opened, read or written; tells the status.
-fn fail(name: &[u8]) -> u8 {
-    io::write_all(STDERR_FILENO, b"gir_write: ");
-    os::fail(name);
+fn fail(rt: HostRuntime, name: &[u8], error: Error) -> u8 {
+    streams::say(rt, b"gir_write: ");
+    streams::fail(rt, name, error);
     TROUBLE
-}
-
-// Reads past what is kept, and tells how much came.
-fn more(fd: i32) -> Chunk {
-    let mut buf = io::buffer();
-    let got = libc::read(fd, &mut buf);
-    if got < 0 {
-        return Chunk::Failed;
-    }
-    let n = io::count(got, &buf);
-    if n == 0 {
-        return Chunk::End;
-    }
-    Chunk::Octets(n as u64)
-}
-
-// Counts the input to its end, with the octets had already; at most the largest 64-bit number.
-fn count(fd: i32, had: u64) -> Counted {
-    let mut total = had;
-    let mut turns = u64::MAX;
-    while turns > 0 {
-        match more(fd) {
-            Chunk::Octets(n) => {
-                if n > u64::MAX - total {
-                    return Counted::All(u64::MAX);
-                }
-                total += n;
-                turns -= 1;
-            }
-            Chunk::End => {
-                return Counted::All(total);
-            }
-            Chunk::Failed => {
-                return Counted::Failed;
-            }
-        }
-    }
-    Counted::All(total)
 }
 
 // Room for a sheet: zeros.
@@ -87,85 +29,73 @@ fn sheet_buffer() -> [u8; 1048576]
 }
 
 // Says on standard error that a sheet is too long to be judged; tells the status.
-fn too_long(name: &[u8]) -> u8 {
-    io::write_all(STDERR_FILENO, b"gir_write: ");
-    io::write_all(STDERR_FILENO, name);
-    io::write_all(STDERR_FILENO, b": over 1048576 octets, not judged\n");
+fn too_long(rt: HostRuntime, name: &[u8]) -> u8 {
+    streams::say(rt, b"gir_write: ");
+    streams::say(rt, name);
+    streams::say(rt, b": over 1048576 octets, not judged\n");
     TROUBLE
 }
 
 // Prints the answer for a sheet of which so many octets are kept; tells the status.
-fn print_answer(sheet: &[u8], all: usize, name: &[u8]) -> u8 {
+fn print_answer(rt: HostRuntime, sheet: &[u8], all: usize, name: &[u8]) -> u8 {
     let mut out = [0u8; ANSWER];
     let n = printing::write(sheet, all, &mut out);
     if n == 0 {
-        return too_long(name);
+        return too_long(rt, name);
     }
-    if !io::write_all(STDOUT_FILENO, octets::part(&out, 0, n)) {
-        return fail(b"standard output");
+    if let Err(error) = rt.write_all(octets::part(&out, 0, n)) {
+        return fail(rt, b"standard output", error);
     }
     // An area has its kind before it, 1 to 6, and a line begins with a letter.
     if out[0] <= 6 { 0 } else { 1 }
 }
 
 // Answers the input; tells the status.
-fn answer(fd: i32, name: &[u8]) -> u8 {
+fn answer<R: Read>(rt: HostRuntime, from: &mut R, name: &[u8]) -> u8 {
     let mut buf = sheet_buffer();
-    let kept = io::read_full(fd, &mut buf);
-    let Counted::All(all) = count(fd, kept as u64) else {
-        return fail(name);
+    let kept = match streams::fill(from, &mut buf) {
+        Ok(kept) => kept,
+        Err(error) => return fail(rt, name, error),
     };
-    // More behind what seemed the end: a read failed in between.
-    if (kept < KEPT) & (all > kept as u64) {
-        return fail(name);
-    }
-    print_answer(octets::part(&buf, 0, kept), all as usize, name)
-}
-
-// Whether an argument is this word.
-fn is_word(i: usize, word: &[u8]) -> bool {
-    let mut text = [0u8; 16];
-    let n = os::arg(i, &mut text);
-    if os::errno() != 0 {
-        return false;
-    }
-    octets::equal(octets::part(&text, 0, n), word)
+    let all = match streams::count(from, kept as u64) {
+        Ok(all) => all,
+        Err(error) => return fail(rt, name, error),
+    };
+    print_answer(rt, octets::part(&buf, 0, kept), all as usize, name)
 }
 
 // Answers the file that the argument at a place names; tells the status.
-fn answer_file(i: usize) -> u8 {
-    let mut name = io::buffer();
-    let n = os::arg(i, &mut name);
-    if os::errno() != 0 {
-        return fail(octets::part(&name, 0, 4096));
+fn answer_file(rt: HostRuntime, i: usize) -> u8 {
+    let mut name = [0u8; 4096];
+    let n = match streams::argument(rt, i, &mut name) {
+        Ok(n) => n,
+        Err(error) => return fail(rt, octets::part(&name, 0, 4096), error),
+    };
+    let told = octets::part(&name, 0, n);
+    match streams::open(rt, told) {
+        Ok(mut file) => answer(rt, &mut file, told),
+        Err(error) => fail(rt, told, error),
     }
-    let fd = os::open_read(octets::part(&name, 0, n));
-    if fd < 0 {
-        return fail(octets::part(&name, 0, n));
-    }
-    let status = answer(fd, octets::part(&name, 0, n));
-    libc::close(fd);
-    status
 }
 
 // Answers what the argument behind the first so many names, or standard input where there is none; tells the status.
-fn answer_arguments(passed: usize) -> u8 {
-    let args = os::arg_count();
+fn answer_arguments(rt: HostRuntime, passed: usize) -> u8 {
+    let args = streams::argument_count(rt);
     if args <= passed {
-        return answer(STDIN_FILENO, b"standard input");
+        return answer(rt, &mut rt.stdin(), b"standard input");
     }
     if args - passed == 1 {
-        return answer_file(passed);
+        return answer_file(rt, passed);
     }
-    io::write_all(STDERR_FILENO, b"gir_write: one file at most\n");
+    streams::say(rt, b"gir_write: one file at most\n");
     TROUBLE
 }
 
-fn main() {
-    if is_word(1, b"--status") {
-        let status = answer_arguments(2);
-        io::write_all(STATUS_FILENO, &[octets::digit_text(status)]);
+fn main(rt: HostRuntime) {
+    if streams::is_word(rt, 1, b"--status") {
+        let status = answer_arguments(rt, 2);
+        streams::tell(octets::digit_text(status));
         return;
     }
-    answer_arguments(1);
+    answer_arguments(rt, 1);
 }

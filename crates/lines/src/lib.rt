@@ -8,14 +8,14 @@ ghost use Rattle.octets.specs.Parts.{part_of};
 ghost use Rattle.lines.specs.Lines.{decimal, refusal_line, entry_with, entries_with, StartLaid, second_told, text_of, followed};
 
 // A text of at most fifty octets together with their count, with zeros behind them: no line of a refusal is longer.
-#[derive(Drop)]
+#[derive(Clone, Copy)]
 pub struct Text {
     pub octets: [u8; 50],
     pub len: usize,
 }
 
 // Twenty octets whose last, from a place on, are the digits of a number.
-#[derive(Drop)]
+#[derive(Clone, Copy)]
 struct Spelled {
     octets: [u8; 20],
     from: usize,
