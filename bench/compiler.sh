@@ -5,7 +5,7 @@
 kit_clang() {
     command -v rt >/dev/null 2>&1 || return 1
     guide=$(rt doc) || return 1
-    found="$(dirname "$(dirname "$guide")")/on/$(uname -m)/toolchain/bin/clang"
+    found="$(dirname "$guide")/toolchain/bin/clang"
     [ -x "$found" ] || return 1
     echo "$found"
 }

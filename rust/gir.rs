@@ -1,7 +1,7 @@
 //! The desk's three jobs for callers in Rust: read an attribute area into a sheet, check it, and
 //! write a sheet back. docs/BOOK.md says what each does, and what every refusal and entry means.
 //!
-//! The library behind it, `target/staticlib/libdesk.a` (`rt staticlib desk`), is proved: every
+//! The library behind it, `target/staticlib/libdesk.a` (`include/archive`), is proved: every
 //! input is answered, none stops the program, and each answer is the one that the book
 //! gives. What is not proved is that the declarations below agree with it; the test beside this
 //! file runs them. All of the crate's `unsafe` is here. The archive links into x86-64 programs:

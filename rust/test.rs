@@ -83,15 +83,15 @@ fn one_less_room() {
     assert_eq!(write(&A_SHEET, &mut area[..19]).map(|w| w.area.to_vec()), Ok(A.to_vec()));
     assert_eq!(area[19..], [0xA5; 11]);
     assert_eq!(read(&[], 1, 0, &mut []), refusal(9, 9));
-    assert_eq!(check(&[], 4, 0, &mut []), refusal(10, 1));
+    assert_eq!(check(&[], 4, 0, &mut []), refusal(10, 2));
     assert_eq!(write(&[], &mut []), refusal(20, 0));
 }
 
 #[test]
 fn what_an_entry_says() {
     let breach = Breach { place: 6, rule: 4, attribute: 26, sub: 8 };
-    assert_eq!(breaches_of(&A, 4, 0), Ok(vec![breach]));
     let absent = |attribute| Breach { place: 19, rule: 6, attribute, sub: 0 };
+    assert_eq!(breaches_of(&A, 4, 0), Ok(vec![breach, absent(40)]));
     assert_eq!(breaches_of(&A, 3, 0), Ok([8, 30, 40, 44].map(absent).to_vec()));
 }
 
