@@ -92,6 +92,7 @@ fn attribute(number: u16, place: usize, head: usize, size: usize) -> Step
 }
 
 // What stands at a place where the type is 26 and the length is `size`.
+#[tactic(auto, using(crate::proofs::Found::vendor_short, crate::proofs::Found::vendor_broken))]
 fn vendor_step(area: &[u8], place: usize, size: usize) -> Step
     requires { (2 ≤ size) × (place + size ≤ length area.now) }
     ensures { result ≡ step_of place (vendor_found size (drop (place + 2) area.now)) }
@@ -118,6 +119,7 @@ fn vendor_step(area: &[u8], place: usize, size: usize) -> Step
 }
 
 // What stands at a place of an area, whatever the place.
+#[tactic(auto, using(crate::proofs::Found::found_one_octet, crate::proofs::Found::found_low))]
 pub fn step_at(area: &[u8], place: usize) -> Step
     ensures { result ≡ step_of place (found_at area.now place) }
 {
@@ -216,6 +218,7 @@ pub fn are_flags(flags: u32) -> bool
 }
 
 // Whether what comes with an area is fit: the first of refusals 1 to 3 that applies, or none.
+#[tactic(auto, using(crate::proofs::Arriving::too_long))]
 pub fn arrive(area: &[u8], kind: u32, flags: u32) -> Arrival
     ensures { result ≡ arrival_of kind flags (length area.now) }
 {

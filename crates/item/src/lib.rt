@@ -138,6 +138,7 @@ pub fn is_octet(code: u8, stored: &[u8]) -> bool
 }
 
 // What the head of an item at a place of a sheet says, whatever the place.
+#[tactic(auto, using(crate::proofs::Entering::headed_short))]
 pub fn head_at(sheet: &[u8], place: usize) -> Headed
     ensures { result ≡ headed_at sheet.now place }
 {

@@ -5,13 +5,13 @@ use mathlib.Core.Bool.{Bool, true, false, cond}
 use mathlib.Core.List.{List}
 use Prim.Native.Nat.{ℕ, ◌+◌, ◌-◌, ◌/◌, ◌%◌, ◌<◌, ◌≤◌}
 use native.Mathlib.Omega.{arith}
-use lib.Dec.{T, eqb, leb, eqb→eq, leb→le}
-use borrow.Author.Tests.{eq-eqb}
+use lib.Dec.{T, eqb, leb, ltb, eqb→eq, leb→le}
+use borrow.Author.Tests.{eq-eqb, ltb-true, ltb-false}
 use lib.ListN.{length, get_or}
 use Rattle.meaning.specs.Versions.{current}
 use Rattle.meaning.specs.Octets.{all, is_digit, is_hex, number_of, digit_value, packed_length}
 use Rattle.meaning.specs.Framing.{is_plain}
-use Rattle.meaning.specs.Shapes.{Shape, number, address, digits, hexadecimal, qos, shape_of, meets}
+use Rattle.meaning.specs.Shapes.{Shape, number, address, digits, hexadecimal, qos, hex_digit, any_octet, decimal_digit, at_least, exactly, blocks, free, shape_of, meets}
 use Rattle.meaning.specs.Sheet.{form_of, form, count, stored}
 use Rattle.meaning.proofs.Tests.{parts, passes}
 use Rattle.meaning.proofs.Forms.{raw_not_4}
@@ -27,7 +27,7 @@ use Rattle.shape.specs.declared.Item.{Item}
 use Rattle.shape.specs.Codes.{code_of, shape_by}
 use Rattle.shape.specs.Items.{value_by, digits_by, undigited, raw_item, item_for, item_at}
 use Rattle.shape.proofs.Codes.{fifteen, at_most_fifteen}
-use Rattle.shape.proofs.Meeting.{digits_all}
+use Rattle.shape.proofs.Meeting.{digits_few, digits_many, digits_all}
 use Rattle.shape.proofs.Formed.{One, Formed, formed_as, form_own, form_raw, own_form, form_without, form_missed, form_met, text_size}
 use Rattle.shape.proofs.Formed.{profile_size}
 
@@ -171,3 +171,31 @@ item_raw n v p none = raw_is n v p (form_without n v (code_of (shape_of n)) refl
 pub item_there : (area : List ℕ) (n : ℕ) (p : Part) (v : List ℕ) → v ≡ part_of area p.start p.len → item_for n v p ≡ item_at area n p
 unfolding item_at
 item_there area n p v part_is = rw part_is
+
+-- of a shape that is digits: no digits are got of what misses it
+not_got :
+    (n : ℕ) (v : List ℕ) (p : Part) (s : Shape) → shape_of n ≡ s → form_of s ≡ 4 → (got_of v).len ≡ 0
+    → item_for n v p ≡ raw_item n (length v) p
+unfolding form_of
+not_got n v p number e f z = absurd (omega arith)
+not_got n v p address e f z = absurd (omega arith)
+not_got n v p hexadecimal e f z = absurd (omega arith)
+not_got n v p qos e f z = absurd (omega arith)
+not_got n v p hex_digit e f z = absurd (omega arith)
+not_got n v p any_octet e f z = absurd (omega arith)
+not_got n v p decimal_digit e f z = absurd (omega arith)
+not_got n v p (at_least k) e f z = absurd (omega arith)
+not_got n v p (exactly k) e f z = absurd (omega arith)
+not_got n v p blocks e f z = absurd (omega arith)
+not_got n v p free e f z = absurd (omega arith)
+not_got n v p (digits a b) e f z = sym (go (ltb (length v) a) (ltb b (length v)) refl refl)
+  where
+    go : (x y : Bool) → ltb (length v) a ≡ x → ltb b (length v) ≡ y → raw_item n (length v) p ≡ item_for n v p
+    go true y h g = missed n v p (digits a b) e (sym (digits_few v a b (ltb-true (length v) a h)))
+    go false true h g = missed n v p (digits a b) e (sym (digits_many v a b (ltb-true b (length v) g)))
+    go false false h g = digits_missed n v p a b e (ltb-false (length v) a h) (ltb-false b (length v) g) (got_of v) refl z
+
+-- a value of which no digits are got
+pub digits_not_got : (n : ℕ) (v : List ℕ) (p : Part) → form_of (shape_of n) ≡ 4 → (got_of v).len ≡ 0
+    → item_for n v p ≡ raw_item n (length v) p
+digits_not_got n v p f z = not_got n v p (shape_of n) refl f z

@@ -330,6 +330,7 @@ fn address_item(number: u16, v: &[u8], value: area::Part) -> Item
 }
 
 // The item of a number whose shape is `least` to `most` digits. Each digit is tested once, where it is taken.
+#[tactic(auto, using(crate::proofs::Items::digits_not_got), unfolding(meaning::specs::Sheet::form_of))]
 fn digits_item(number: u16, v: &[u8], value: area::Part, least: usize, most: usize) -> Item
     requires { shape_of number ≡ digits least most }
     ensures { result ≡ item_for number v.now value }

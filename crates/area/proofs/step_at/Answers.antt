@@ -2,17 +2,11 @@
 use native.Mathlib.Omega.{arith}
 use mathlib.Core.Path.{sym, ap, ◌∙◌}
 use Rattle.area.specs.Answers.{step_of}
-use Rattle.area.proofs.Found.{found_nothing, found_one_octet, found_low, found_past, found_vendor, found_plain}
+use Rattle.area.proofs.Found.{found_nothing, found_past, found_vendor, found_plain}
 use Rattle.area.proofs.step_at.Goals as goal
 
 pub returns-then-area-place : goal.returns-then-area-place
 returns-then-area-place c = ap (step_of _) (sym (found_nothing _ _ (omega arith)))
-
-pub returns-then-left-lt2 : goal.returns-then-left-lt2
-returns-then-left-lt2 c = c.refused.ensures ∙ ap (step_of _) (sym (found_one_octet _ _ (omega arith)))
-
-pub returns-then-size-lt2 : goal.returns-then-size-lt2
-returns-then-size-lt2 c = c.refused-then-size-lt2.ensures ∙ ap (step_of _) (sym (found_low _ _ (omega arith) (omega arith)))
 
 pub returns-then-left-size : goal.returns-then-left-size
 returns-then-left-size c = c.refused-then-left-size.ensures ∙ ap (step_of _) (sym (found_past _ _ (omega arith) (omega arith) (omega arith)))

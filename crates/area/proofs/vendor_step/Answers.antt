@@ -2,28 +2,13 @@
 use native.Mathlib.Omega.{arith}
 use mathlib.Core.Path.{sym, ap, ◌∙◌}
 use Rattle.area.specs.Answers.{step_of}
-use Rattle.area.proofs.Found.{vendor_short, vendor_other, vendor_broken, vendor_sub}
+use Rattle.area.proofs.Found.{vendor_other, vendor_broken, vendor_sub}
 use Rattle.area.proofs.vendor_step.Goals as goal
-
-pub returns-then-size-lt7 : goal.returns-then-size-lt7
-returns-then-size-lt7 c = c.refused.ensures ∙ ap (step_of _) (sym (vendor_short _ _ (omega arith)))
 
 pub returns-then-u32_at-ne-VENDOR_3GPP : goal.returns-then-u32_at-ne-VENDOR_3GPP
 returns-then-u32_at-ne-VENDOR_3GPP c =
     c.attribute.ensures
     ∙ ap (step_of _) (sym (vendor_other _ _ _ (omega arith) (λ e. c.if-u32_at-ne-VENDOR_3GPP.true (c.u32_at.ensures ∙ e))))
-
-pub returns-then-size-lt8 : goal.returns-then-size-lt8
-returns-then-size-lt8 c =
-    let u = c in
-    c.refused-then-size-lt8.ensures
-    ∙ ap (step_of _) (sym (vendor_broken _ _ _ (omega arith) (sym u.u32_at.ensures ∙ u.if-u32_at-ne-VENDOR_3GPP.false) (omega arith)))
-
-pub returns-then-m-gt248 : goal.returns-then-m-gt248
-returns-then-m-gt248 c =
-    let u = c in
-    c.refused-then-m-gt248.ensures
-    ∙ ap (step_of _) (sym (vendor_broken _ _ _ (omega arith) (sym u.u32_at.ensures ∙ u.if-u32_at-ne-VENDOR_3GPP.false) (omega arith)))
 
 pub returns-then-m-size : goal.returns-then-m-size
 returns-then-m-size c =

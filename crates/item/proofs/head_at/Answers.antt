@@ -9,9 +9,6 @@ use Rattle.item.proofs.head_at.Goals as goal
 pub returns-then-sheet-place : goal.returns-then-sheet-place
 returns-then-sheet-place c = c.refused.ensures ∙ headed_short _ _ (omega arith)
 
-pub returns-then-left-lt4 : goal.returns-then-left-lt4
-returns-then-left-lt4 c = c.refused-then-left-lt4.ensures ∙ headed_short _ _ (omega arith)
-
 pub overflow_cast-count : goal.overflow_cast-count
 overflow_cast-count c = omega (arith, c.shared_slice_known-3-1.given (c.args.place + 3))
 
