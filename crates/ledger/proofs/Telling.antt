@@ -39,7 +39,7 @@ module _ (n f w : ℕ) (read : List ℕ → ℕ) (st : Stores n f w read) (l : L
           → cond b (had (number_of (take w (stored current n v ++ rest)))) missing ≡ cond b (had (read v)) missing
       go true q =
           let is = eqb-true (form current n v) f q in
-          ap (λ (d : List ℕ). had (number_of d)) (take_at (stored current n v) rest w (sym (st.long v is))) ∙ ap had (st.is v is)
+          ap (λ (d : List ℕ). had (number_of d)) (take_at (stored current n v) rest w (st.long v is)) ∙ ap had (st.is v is)
       go false q = refl
 
   -- so many items from a place on

@@ -3,7 +3,7 @@ use Rattle.std.proofs.Common.{◌≡◌, ℕ, ◌+◌, ◌-◌, ◌%◌, ◌<◌
 use Rattle.meaning.specs.Octets.{Octets}
 use Rattle.meaning.specs.Refusals as book
 use Rattle.meaning.specs.Sheet.{judged, kind_in, flags_in, area_in}
-use Rattle.meaning.specs.Answers as meant
+use Rattle.meaning.specs.Answers as answering
 use Rattle.meaning.specs.Ledger as meant
 use Rattle.meaning.specs.Ledger.{Had, missing, had, reading_in, session_in, Counter, octets_in, octets_out, packets_in, packets_out}
 use Rattle.meaning.specs.Ledger.{passes64, too_much, is_start, closes, out_of_turn, unlike, ledger_refusal, book_answer}
@@ -164,9 +164,30 @@ module _ (l : meant.Ledger) (sheet : List ℕ) (o : Octets sheet) where
       next : meant.Ledger
       next = meant.added l sheet
 
-      go : (b : Bool) → cond b (refused_as 33) (booking.Booked (ledger_as next)) ≡ booking_of (meant.unless (book.when b 33 0) next)
+      go : (b : Bool) → cond b (refused_as 33) (booking.Booked (ledger_as next)) ≡ booking_of (answering.unless (book.when b 33 0) next)
       go true = refl
       go false = refl
+
+  -- what comes of a sheet that is written and at its turn, by its session id
+  module _ (clean : judged sheet ≡ book.none) (turn : out_of_turn l.opened (kind_in sheet) ≡ false) where
+    like_on : (id : ℕ) → session_in sheet ≡ had id → is_start (kind_in sheet) ≡ false → (c : Bool) → eqb id l.session ≡ c
+        → cond (not c) (refused_as 32) (added_by l (not (closes (kind_in sheet))) sheet (firsts_of sheet)) ≡ booking_of (book_answer l sheet)
+    unfolding book_answer ledger_refusal unlike
+    like_on id q f true u = added_told id q u clean turn f
+    like_on id q f false u = rw (clean, turn, q, f, u)
+
+    start_on : (id : ℕ) → session_in sheet ≡ had id → (c : Bool) → is_start (kind_in sheet) ≡ c
+        → cond c (booking.Booked (ledger_as (meant.begun (had id))))
+        (cond (not (eqb id l.session)) (refused_as 32) (added_by l (not (closes (kind_in sheet))) sheet (firsts_of sheet)))
+        ≡ booking_of (book_answer l sheet)
+    unfolding book_answer ledger_refusal unlike meant.booked meant.begun too_much
+    start_on id q true f = rw (clean, turn, q, f)
+    start_on id q false f = like_on id q f (eqb id l.session) refl
+
+    session_on : (h : Had) → session_in sheet ≡ h → named_as l (kind_in sheet) sheet (firsts_of sheet) h ≡ booking_of (book_answer l sheet)
+    unfolding book_answer ledger_refusal unlike
+    session_on missing q = rw (clean, turn, q)
+    session_on (had id) q = start_on id q (is_start (kind_in sheet)) refl
 
   module _ (j : Judgement) (says : j ≡ judgement_of sheet) where
     pub book_30 : (x : _) → j ≡ judgement.Refused x → refused_as 30 ≡ booking_of (book_answer l sheet)
@@ -201,25 +222,7 @@ module _ (l : meant.Ledger) (sheet : List ℕ) (o : Octets sheet) where
           → r ≡ booking_of (book_answer l sheet)
       unfolding named_by firsts_of
       book_on b s t r is =
-          is ∙ ap (λ (h : Had). named_as l kind sheet (firsts_of sheet) h) (session_told sheet o) ∙ rw clean.kind_is (go (session_in sheet) refl)
+          is ∙ ap (λ (h : Had). named_as l kind sheet (firsts_of sheet) h) (session_told sheet o) ∙ rw clean.kind_is (session_on clean.accepted turn (session_in sheet) refl)
         where
           turn : out_of_turn l.opened (kind_in sheet) ≡ false
           turn = ap (out_of_turn l.opened) (sym clean.kind_is) ∙ sym s ∙ t
-
-          go : (h : Had) → session_in sheet ≡ h → named_as l (kind_in sheet) sheet (firsts_of sheet) h ≡ booking_of (book_answer l sheet)
-          unfolding book_answer ledger_refusal unlike
-          go missing q = rw (clean.accepted, turn, q)
-          go (had id) q = start (is_start (kind_in sheet)) refl
-            where
-              like : (c : Bool) → eqb id l.session ≡ c → is_start (kind_in sheet) ≡ false
-                  → cond (not c) (refused_as 32) (added_by l (not (closes (kind_in sheet))) sheet (firsts_of sheet)) ≡ booking_of (book_answer l sheet)
-              like true u f = added_told id q u clean.accepted turn f
-              like false u f = rw (clean.accepted, turn, q, f, u)
-
-              start : (c : Bool) → is_start (kind_in sheet) ≡ c
-                  → cond c (booking.Booked (ledger_as (meant.begun (had id))))
-                  (cond (not (eqb id l.session)) (refused_as 32) (added_by l (not (closes (kind_in sheet))) sheet (firsts_of sheet)))
-                  ≡ booking_of (book_answer l sheet)
-              unfolding meant.booked meant.begun too_much
-              start true f = rw (clean.accepted, turn, q, f)
-              start false f = like (eqb id l.session) refl f
