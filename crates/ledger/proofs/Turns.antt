@@ -1,5 +1,5 @@
 -- What is answered to a sheet, by what was found in it: the first of 30 to 33 that applies, or the next state. Assumes nothing.
-use Rattle.std.proofs.Common.{◌≡◌, ℕ, ◌+◌, ◌-◌, ◌%◌, ◌<◌, ◌≤◌, Bool, true, false, cond, not, ◌&&◌, ◌||◌, eqb, ltb, List, sym, refl, ap, ◌∙◌, arith, le-ltb, lt-ltb}
+use Rattle.std.proofs.Common.{◌≡◌, ℕ, ◌+◌, ◌-◌, ◌%◌, ◌<◌, ◌≤◌, Bool, true, false, cond, not, ◌&&◌, ◌||◌, eqb, ltb, List, sym, refl, ap, ◌∙◌, arith, le-ltb, lt-ltb, ne_eqb, ◌≢◌}
 use Rattle.meaning.specs.Octets.{Octets}
 use Rattle.meaning.specs.Refusals as book
 use Rattle.meaning.specs.Sheet.{judged, kind_in, flags_in, area_in}
@@ -49,6 +49,33 @@ module _ (a : Account) (r : Reading) where
         → counting.Held (record { last = later; total = a.total + more }) ≡ counted_as (meant.counted (account_of a) (had_by r))
     unfolding counted_as meant.counted
     counted_held low h = rw (e, sym is, le-ltb 18446744073709551615 (a.total + more) (omega arith))
+
+-- ---- Turns
+
+module _ (b : Bool) (k : ℕ) where
+  pub turn_of_start : k ≡ 2 → b ≡ out_of_turn b k
+  unfolding out_of_turn
+  turn_of_start e = rw e
+
+  module _ (other : k ≢ 2) where
+    -- a STOP or an Interim
+    pub turn_of_another : eqb k 3 || eqb k 6 ≡ true → not b ≡ out_of_turn b k
+    unfolding out_of_turn
+    turn_of_another e = rw (ne_eqb k 2 other) (go (eqb k 3) (eqb k 6) e)
+      where
+        go : (x y : Bool) → x || y ≡ true → not b ≡ not (x || (y || false)) || not b
+        go true y h = refl
+        go false true h = refl
+        go false false h = cc
+
+    pub turn_of_none : eqb k 3 || eqb k 6 ≡ false → true ≡ out_of_turn b k
+    unfolding out_of_turn
+    turn_of_none e = rw (ne_eqb k 2 other) (go (eqb k 3) (eqb k 6) e)
+      where
+        go : (x y : Bool) → x || y ≡ false → true ≡ not (x || (y || false)) || not b
+        go true y h = cc
+        go false true h = cc
+        go false false h = refl
 
 -- ---- Four accounts
 
