@@ -6,16 +6,26 @@ use Rattle.ledger.proofs.Turns.{added_over, added_all}
 use Rattle.ledger.proofs.added.Goals as goal
 
 pub returns-in_default : goal.returns-in_default
-returns-in_default c = let h = c.in_default.is in let k = c.in_default.ensures in let m = c.in_default.not-Held in let g = c.refused.ensures in let n = c.account_with.ensures in ?
+returns-in_default c =
+    c.refused.ensures
+    ∙ added_over (ledger_of c.args.ledger) c.args.opened c.args.sheet.now c.args.at octets_in _ c.account_with.ensures c.in_default.is
 
 pub returns-in_default-account_with : goal.returns-in_default-account_with
-returns-in_default-account_with c = ?
+returns-in_default-account_with c =
+    c.refused-in_default-account_with.ensures
+    ∙ added_over (ledger_of c.args.ledger) c.args.opened c.args.sheet.now c.args.at octets_out _ c.account_with-2.ensures c.in_default-account_with.is
 
 pub returns-in_default-account_with-2 : goal.returns-in_default-account_with-2
-returns-in_default-account_with-2 c = ?
+returns-in_default-account_with-2 c =
+    c.refused-in_default-account_with-2.ensures
+    ∙ added_over (ledger_of c.args.ledger) c.args.opened c.args.sheet.now c.args.at packets_in _ c.account_with-3.ensures c.in_default-account_with-2.is
 
 pub returns-in_default-account_with-3 : goal.returns-in_default-account_with-3
-returns-in_default-account_with-3 c = ?
+returns-in_default-account_with-3 c =
+    c.refused-in_default-account_with-3.ensures
+    ∙ added_over (ledger_of c.args.ledger) c.args.opened c.args.sheet.now c.args.at packets_out _ c.account_with-4.ensures c.in_default-account_with-3.is
 
 pub returns : goal.returns
-returns c = let h = c.in-Held.is in let k = c.in-Held.ensures in let m = c.in-Held-account_with-3.ensures in ?
+returns c =
+    added_all (ledger_of c.args.ledger) c.args.opened c.args.sheet.now c.args.at _ _ _ _ c.account_with.ensures c.account_with-2.ensures c.account_with-3.ensures c.account_with-4.ensures
+    _ _ _ _ c.in-Held.is c.in-Held-account_with.is c.in-Held-account_with-2.is c.in-Held-account_with-3.is
