@@ -46,11 +46,13 @@ pub returns : goal.returns
 unfolding firsts_of
 returns c =
     let l = c.args.sheet.now in
-    let i = c.loop-left.invariant in
-    let none : c.loop-left.left ≡ 0 = omega (arith, c.loop-left-test.false) in
-    let a = found_all 42 l _ _ _ none i.input_octets in
-    let b = found_all 43 l _ _ _ none i.output_octets in
-    let s = found_all 44 l _ _ _ none i.session in
-    let p = found_all 47 l _ _ _ none i.input_packets in
-    let q = found_all 48 l _ _ _ none i.output_packets in
-    cc (a, b, s, p, q)
+    let k = c.loop-left in
+    let i = k.invariant in
+    let none : k.left ≡ 0 = omega (arith, c.loop-left-test.false) in
+    cc (
+      found_all 42 l k.left k.place k.input_octets none i.input_octets,
+      found_all 43 l k.left k.place k.output_octets none i.output_octets,
+      found_all 44 l k.left k.place k.session none i.session,
+      found_all 47 l k.left k.place k.input_packets none i.input_packets,
+      found_all 48 l k.left k.place k.output_packets none i.output_packets,
+    )
