@@ -2,7 +2,7 @@
 use Rattle.std.proofs.Common.{◌≡◌, ℕ, ◌+◌, ◌-◌, ◌<◌, ◌≤◌, Bool, true, false, cond, ◌&&◌, eqb, List, [], ◌∷◌, drop, sym, refl, ap, ◌∙◌, arith, ne_eqb, eqb-true}
 use Rattle.meaning.specs.Octets.{Octets, number_of}
 use Rattle.meaning.specs.Framing.{Walk, next, attributes}
-use Rattle.meaning.specs.Refusals.{none, refusal, fault}
+use Rattle.meaning.specs.Refusals.{none, fault}
 use Rattle.meaning.specs.Versions.{current}
 use Rattle.meaning.specs.Sheet.{items, judged, refused}
 use Rattle.meaning.proofs.Walked.{no_refusal}

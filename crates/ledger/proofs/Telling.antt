@@ -1,12 +1,12 @@
 -- What the octets at the place of an item say: its reading, or its session id. Assumes nothing.
-use Rattle.std.proofs.Common.{◌≡◌, ℕ, zero, suc, ◌+◌, ◌*◌, ◌<◌, ◌≤◌, Bool, true, false, cond, not, ◌&&◌, ◌||◌, eqb, ltb, leb, List, [], ◌∷◌, ◌++◌, length, get_or, take, drop, sym, refl, ap, ◌∙◌, ⊎_elim, arith, eqb→eq, length-drop, take-append-drop, get_or-drop, drop-drop, take_at, lt-ltb, ne_eqb, eqb-true}
+use Rattle.std.proofs.Common.{◌≡◌, ℕ, zero, suc, ◌+◌, ◌<◌, Bool, true, false, cond, ◌||◌, eqb, leb, List, [], ◌∷◌, ◌++◌, length, get_or, take, drop, sym, refl, ap, ◌∙◌, ⊎_elim, arith, eqb→eq, length-drop, take-append-drop, get_or-drop, drop-drop, take_at, lt-ltb, ne_eqb, eqb-true}
 use Rattle.std.proofs.lemmas.Bool.Decides.{nat_tests}
 use Rattle.meaning.specs.Versions.{current}
 use Rattle.meaning.specs.Octets.{Octets, number_of, pack, packed_length, values}
-use Rattle.meaning.specs.Framing.{Attribute, Walk, attributes}
+use Rattle.meaning.specs.Framing.{Walk, attributes}
 use Rattle.meaning.specs.Shapes.{Shape, shape_of, plain_shape, meets}
 use Rattle.meaning.specs.Sheet.{form_of, stored_of, form, stored, item, items_in, Entered, holds, refused, entered, on_item, items}
-use Rattle.meaning.specs.Ledger.{Had, missing, had, first_in, reading_in, session_in, Counter, counter_number}
+use Rattle.meaning.specs.Ledger.{missing, had, first_in, reading_in, session_in, Counter, counter_number}
 use Rattle.meaning.proofs.Octets.{octets_drop}
 use Rattle.meaning.proofs.Tests.{parts}
 use Rattle.meaning.proofs.Packing.{pack_length, values_length}

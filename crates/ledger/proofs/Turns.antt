@@ -1,8 +1,8 @@
 -- What is answered to a sheet, by what was found in it: the first of 30 to 33 that applies, or the next state. Assumes nothing.
-use Rattle.std.proofs.Common.{◌≡◌, ℕ, ◌+◌, ◌-◌, ◌%◌, ◌<◌, ◌≤◌, Bool, true, false, cond, not, ◌&&◌, ◌||◌, eqb, ltb, List, sym, refl, ap, ◌∙◌, arith, le-ltb, lt-ltb, ne_eqb, ◌≢◌}
+use Rattle.std.proofs.Common.{◌≡◌, ℕ, ◌+◌, ◌-◌, ◌%◌, ◌<◌, ◌≤◌, Bool, true, false, cond, not, ◌||◌, eqb, List, sym, refl, ap, ◌∙◌, arith, le-ltb, lt-ltb, ne_eqb, ◌≢◌}
 use Rattle.meaning.specs.Octets.{Octets}
 use Rattle.meaning.specs.Refusals as book
-use Rattle.meaning.specs.Sheet.{judged, kind_in, flags_in, area_in}
+use Rattle.meaning.specs.Sheet.{judged, kind_in}
 use Rattle.meaning.specs.Answers as answering
 use Rattle.meaning.specs.Ledger as meant
 use Rattle.meaning.specs.Ledger.{Had, missing, had, reading_in, session_in, Counter, octets_in, octets_out, packets_in, packets_out}
@@ -11,7 +11,6 @@ use Rattle.writing.specs.declared.Judgement.{Judgement}
 use Rattle.writing.specs.declared.Judgement.TheVariants as judgement
 use Rattle.writing.specs.Answers.{judgement_of, judgement_by}
 use Rattle.ledger.specs.declared.Account.{Account}
-use Rattle.ledger.specs.declared.Ledger.{Ledger}
 use Rattle.ledger.specs.declared.Booking.{Booking}
 use Rattle.ledger.specs.declared.Booking.TheVariants as booking
 use Rattle.ledger.specs.declared.Firsts.{Firsts}
@@ -22,7 +21,7 @@ use Rattle.ledger.specs.declared.Reading.TheVariants as reading
 use Rattle.ledger.specs.declared.Counted.{Counted}
 use Rattle.ledger.specs.declared.Counted.TheVariants as counting
 use Rattle.ledger.specs.Firsts.{firsts_of, read_at}
-use Rattle.ledger.specs.Answers.{account_of, account_as, ledger_of, ledger_as, had_by, id_by, counted_as, refused_as, booking_of, accounts_with}
+use Rattle.ledger.specs.Answers.{account_of, account_as, ledger_as, had_by, id_by, counted_as, refused_as, booking_of, accounts_with}
 use Rattle.ledger.specs.Answers.{added_by, named_as, named_by}
 use Rattle.ledger.proofs.Telling.{reading_told, session_told}
 

@@ -1,5 +1,5 @@
 -- What the answers of this crate stand for, in the words of the meaning. Assumes nothing.
-use Rattle.std.specs.Prelude.{ℕ, Bool, cond, not, ◌||◌, List, ◌==◌}
+use Rattle.std.specs.Prelude.{ℕ, Bool, cond, not, List, ◌==◌}
 use Rattle.meaning.specs.Answers as answering
 use Rattle.meaning.specs.Ledger as meant
 use Rattle.meaning.specs.Ledger.{Had, missing, had, Counter, octets_in, octets_out, packets_in, packets_out, is_start, closes}

@@ -1,7 +1,6 @@
 -- The walk over the items: each finds its first, and none is refused. Assumes nothing.
-use Rattle.std.proofs.Common.{ℕ, arith, ◌<◌, ◌≡◌, List}
+use Rattle.std.proofs.Common.{arith, ◌<◌, ◌≡◌}
 use Rattle.octets.proofs.Parts.{slice_octets}
-use Rattle.meaning.specs.Octets.{Octets}
 use Rattle.writing.proofs.Entries.{behind_head}
 use Rattle.ledger.specs.Firsts.{firsts_of}
 use Rattle.ledger.proofs.Places.{looking_none, found_none, no_head, looking_more, found_more, found_all}

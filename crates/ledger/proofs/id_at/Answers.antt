@@ -1,5 +1,5 @@
 -- The session id at a place. Assumes nothing.
-use Rattle.std.proofs.Common.{arith, ap, sym, ◌∙◌}
+use Rattle.std.proofs.Common.{arith, ap, sym}
 use Rattle.ledger.specs.Answers.{id_by}
 use Rattle.ledger.proofs.Telling.{stood_within, not_read, read}
 use Rattle.ledger.proofs.id_at.Goals as goal

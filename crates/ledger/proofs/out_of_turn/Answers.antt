@@ -1,5 +1,4 @@
 -- Each kind's turn. Assumes nothing.
-use Rattle.std.proofs.Common.{rules}
 use Rattle.ledger.proofs.Turns.{turn_of_start, turn_of_another, turn_of_none}
 use Rattle.ledger.proofs.out_of_turn.Goals as goal
 

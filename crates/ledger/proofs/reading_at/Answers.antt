@@ -1,5 +1,5 @@
 -- The reading at a place. Assumes nothing.
-use Rattle.std.proofs.Common.{arith, ap, sym, ◌∙◌}
+use Rattle.std.proofs.Common.{arith, ap, sym}
 use Rattle.ledger.specs.Answers.{reading_by}
 use Rattle.ledger.proofs.Telling.{stood_within, not_read, read}
 use Rattle.ledger.proofs.reading_at.Goals as goal
