@@ -2,7 +2,7 @@
 use Rattle.std.proofs.Common.{◌≡◌, ℕ, ◌+◌, ◌-◌, ◌<◌, ◌≤◌, Bool, true, false, cond, ◌&&◌, eqb, List, [], ◌∷◌, drop, sym, refl, ap, ◌∙◌, arith, ne_eqb, eqb-true}
 use Rattle.meaning.specs.Octets.{Octets, number_of}
 use Rattle.meaning.specs.Framing.{Walk, next, attributes}
-use Rattle.meaning.specs.Refusals.{none, refusal, fault}
+use Rattle.meaning.specs.Refusals.{none, fault}
 use Rattle.meaning.specs.Versions.{current}
 use Rattle.meaning.specs.Sheet.{items, judged, refused}
 use Rattle.meaning.proofs.Walked.{no_refusal}
@@ -14,6 +14,7 @@ use Rattle.item.specs.declared.Headed.TheVariants.{Item, Refused}
 use Rattle.item.specs.Stands.{stands_as}
 use Rattle.item.specs.Answers.{entered_at, headed_at}
 use Rattle.item.proofs.Entering.{a_refusal}
+use Rattle.writing.specs.Attributes.{value_as}
 use Rattle.writing.proofs.Entries.{stored_here, no_entry, entry_here}
 use Rattle.writing.proofs.Walking.{items_at, items_start, items_enter, items_refuse}
 use Rattle.ledger.specs.Firsts.{first_place, place_in}
@@ -53,13 +54,16 @@ module _ (l : List ℕ) (left place : ℕ) (k : Looking l left place) (some : 0 
     stepped : Stepped l left place n behind
     stepped = go (stands_as n f c (stored_here l place o r says n f c behind q)) refl
       where
+        value_here : List ℕ
+        value_here = value_as n f c (stored_here l place o r says n f c behind q)
+
         go : (b : Bool) → stands_as n f c (stored_here l place o r says n f c behind q) ≡ b → Stepped l left place n behind
         go true e =
             let h = entry_here l place o r says n f c behind q e in
             record {
-              value = _;
-              onward = items_enter l left place n _ h.size some h.entered_is
-                  ∙ ap (λ (b : ℕ). next _ (items_at l (left - 1) b)) (sym h.behind_is);
+              value = value_here;
+              onward = items_enter l left place n value_here h.size some h.entered_is
+                  ∙ ap (λ (b : ℕ). next (record { place = place; number = n; value = value_here }) (items_at l (left - 1) b)) (sym h.behind_is);
             }
         go false e = never 23 (no_entry l place o r says n f c behind q e)
 

@@ -1,11 +1,12 @@
 -- What the octets at the place of an item say: its reading, or its session id. Assumes nothing.
-use Rattle.std.proofs.Common.{◌≡◌, ℕ, zero, suc, ◌+◌, ◌*◌, ◌<◌, ◌≤◌, Bool, true, false, cond, not, ◌&&◌, eqb, ltb, List, [], ◌∷◌, ◌++◌, length, get_or, take, drop, sym, refl, ap, ◌∙◌, ⊎_elim, arith, eqb→eq, length-drop, take-append-drop, get_or-drop, drop-drop, take_at, lt-ltb, ne_eqb, eqb-true}
+use Rattle.std.proofs.Common.{◌≡◌, ℕ, zero, suc, ◌+◌, ◌<◌, Bool, true, false, cond, ◌||◌, eqb, leb, List, [], ◌∷◌, ◌++◌, length, get_or, take, drop, sym, refl, ap, ◌∙◌, ⊎_elim, arith, eqb→eq, length-drop, take-append-drop, get_or-drop, drop-drop, take_at, lt-ltb, ne_eqb, eqb-true}
+use Rattle.std.proofs.lemmas.Bool.Decides.{nat_tests}
 use Rattle.meaning.specs.Versions.{current}
 use Rattle.meaning.specs.Octets.{Octets, number_of, pack, packed_length, values}
-use Rattle.meaning.specs.Framing.{Attribute, Walk, attributes}
+use Rattle.meaning.specs.Framing.{Walk, attributes}
 use Rattle.meaning.specs.Shapes.{Shape, shape_of, plain_shape, meets}
 use Rattle.meaning.specs.Sheet.{form_of, stored_of, form, stored, item, items_in, Entered, holds, refused, entered, on_item, items}
-use Rattle.meaning.specs.Ledger.{Had, missing, had, first_in, reading_in, session_in, Counter, counter_number}
+use Rattle.meaning.specs.Ledger.{missing, had, first_in, reading_in, session_in, Counter, counter_number}
 use Rattle.meaning.proofs.Octets.{octets_drop}
 use Rattle.meaning.proofs.Tests.{parts}
 use Rattle.meaning.proofs.Packing.{pack_length, values_length}
@@ -39,7 +40,7 @@ module _ (n f w : ℕ) (read : List ℕ → ℕ) (st : Stores n f w read) (l : L
           → cond b (had (number_of (take w (stored current n v ++ rest)))) missing ≡ cond b (had (read v)) missing
       go true q =
           let is = eqb-true (form current n v) f q in
-          ap (λ (d : List ℕ). had (number_of d)) (take_at (stored current n v) rest w (sym (st.long v is))) ∙ ap had (st.is v is)
+          ap (λ (d : List ℕ). had (number_of d)) (take_at (stored current n v) rest w (st.long v is)) ∙ ap had (st.is v is)
       go false q = refl
 
   -- so many items from a place on
@@ -115,3 +116,29 @@ reading_told c l o = items_told (counter_number c) 2 4 number_of (counter_stores
 pub session_told : (l : List ℕ) → Octets l → read_at 5 8 l (place_in 44 l) ≡ session_in l
 unfolding session_in items_in
 session_told l o = items_told 44 5 8 _ session_stores l o _ 9 (omega arith)
+
+-- ---- What is asked of a place
+
+module _ (f : ℕ) (l : List ℕ) (p : ℕ) where
+  -- no item stands at 0, nor past the end
+  pub none_stood : eqb p 0 || leb (length l) p ≡ true → false ≡ stood_at f l p
+  unfolding stood_at
+  none_stood h = grind (arith, nat_tests)
+
+  -- elsewhere an item's form is its third octet
+  pub form_stood : eqb p 0 || leb (length l) p ≡ false → (x : ℕ) → x ≡ get_or l (p + 2) 0 → eqb x f ≡ stood_at f l p
+  unfolding stood_at
+  form_stood h x e = grind (arith, nat_tests)
+
+  pub stood_within : true ≡ stood_at f l p → p < length l
+  unfolding stood_at
+  stood_within e = grind (arith, nat_tests)
+
+  module _ (w : ℕ) where
+    pub not_read : false ≡ stood_at f l p → read_at f w l p ≡ missing
+    unfolding read_at
+    not_read e = rw (sym e)
+
+    pub read : true ≡ stood_at f l p → (r : ℕ) → r ≡ number_of (part_of l (p + 4) w) → read_at f w l p ≡ had r
+    unfolding read_at
+    read e r is = rw (sym e, is)

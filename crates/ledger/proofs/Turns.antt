@@ -1,9 +1,9 @@
 -- What is answered to a sheet, by what was found in it: the first of 30 to 33 that applies, or the next state. Assumes nothing.
-use Rattle.std.proofs.Common.{◌≡◌, ℕ, ◌+◌, ◌-◌, ◌%◌, ◌<◌, ◌≤◌, Bool, true, false, cond, not, ◌&&◌, ◌||◌, eqb, ltb, List, sym, refl, ap, ◌∙◌, arith, le-ltb, lt-ltb}
+use Rattle.std.proofs.Common.{◌≡◌, ℕ, ◌+◌, ◌-◌, ◌%◌, ◌<◌, ◌≤◌, Bool, true, false, cond, not, ◌||◌, eqb, List, sym, refl, ap, ◌∙◌, arith, le-ltb, lt-ltb, ne_eqb, ◌≢◌}
 use Rattle.meaning.specs.Octets.{Octets}
 use Rattle.meaning.specs.Refusals as book
-use Rattle.meaning.specs.Sheet.{judged, kind_in, flags_in, area_in}
-use Rattle.meaning.specs.Answers as meant
+use Rattle.meaning.specs.Sheet.{judged, kind_in}
+use Rattle.meaning.specs.Answers as answering
 use Rattle.meaning.specs.Ledger as meant
 use Rattle.meaning.specs.Ledger.{Had, missing, had, reading_in, session_in, Counter, octets_in, octets_out, packets_in, packets_out}
 use Rattle.meaning.specs.Ledger.{passes64, too_much, is_start, closes, out_of_turn, unlike, ledger_refusal, book_answer}
@@ -11,7 +11,6 @@ use Rattle.writing.specs.declared.Judgement.{Judgement}
 use Rattle.writing.specs.declared.Judgement.TheVariants as judgement
 use Rattle.writing.specs.Answers.{judgement_of, judgement_by}
 use Rattle.ledger.specs.declared.Account.{Account}
-use Rattle.ledger.specs.declared.Ledger.{Ledger}
 use Rattle.ledger.specs.declared.Booking.{Booking}
 use Rattle.ledger.specs.declared.Booking.TheVariants as booking
 use Rattle.ledger.specs.declared.Firsts.{Firsts}
@@ -22,7 +21,7 @@ use Rattle.ledger.specs.declared.Reading.TheVariants as reading
 use Rattle.ledger.specs.declared.Counted.{Counted}
 use Rattle.ledger.specs.declared.Counted.TheVariants as counting
 use Rattle.ledger.specs.Firsts.{firsts_of, read_at}
-use Rattle.ledger.specs.Answers.{account_of, account_as, ledger_of, ledger_as, had_by, id_by, counted_as, refused_as, booking_of, accounts_with}
+use Rattle.ledger.specs.Answers.{account_of, account_as, ledger_as, had_by, id_by, counted_as, refused_as, booking_of, accounts_with}
 use Rattle.ledger.specs.Answers.{added_by, named_as, named_by}
 use Rattle.ledger.proofs.Telling.{reading_told, session_told}
 
@@ -49,6 +48,33 @@ module _ (a : Account) (r : Reading) where
         → counting.Held (record { last = later; total = a.total + more }) ≡ counted_as (meant.counted (account_of a) (had_by r))
     unfolding counted_as meant.counted
     counted_held low h = rw (e, sym is, le-ltb 18446744073709551615 (a.total + more) (omega arith))
+
+-- ---- Turns
+
+module _ (b : Bool) (k : ℕ) where
+  pub turn_of_start : k ≡ 2 → b ≡ out_of_turn b k
+  unfolding out_of_turn
+  turn_of_start e = rw e
+
+  module _ (other : k ≢ 2) where
+    -- a STOP or an Interim
+    pub turn_of_another : eqb k 3 || eqb k 6 ≡ true → not b ≡ out_of_turn b k
+    unfolding out_of_turn
+    turn_of_another e = rw (ne_eqb k 2 other) (go (eqb k 3) (eqb k 6) e)
+      where
+        go : (x y : Bool) → x || y ≡ true → not b ≡ not (x || (y || false)) || not b
+        go true y h = refl
+        go false true h = refl
+        go false false h = cc
+
+    pub turn_of_none : eqb k 3 || eqb k 6 ≡ false → true ≡ out_of_turn b k
+    unfolding out_of_turn
+    turn_of_none e = rw (ne_eqb k 2 other) (go (eqb k 3) (eqb k 6) e)
+      where
+        go : (x y : Bool) → x || y ≡ false → true ≡ not (x || (y || false)) || not b
+        go true y h = cc
+        go false true h = cc
+        go false false h = refl
 
 -- ---- Four accounts
 
@@ -164,9 +190,30 @@ module _ (l : meant.Ledger) (sheet : List ℕ) (o : Octets sheet) where
       next : meant.Ledger
       next = meant.added l sheet
 
-      go : (b : Bool) → cond b (refused_as 33) (booking.Booked (ledger_as next)) ≡ booking_of (meant.unless (book.when b 33 0) next)
+      go : (b : Bool) → cond b (refused_as 33) (booking.Booked (ledger_as next)) ≡ booking_of (answering.unless (book.when b 33 0) next)
       go true = refl
       go false = refl
+
+  -- what comes of a sheet that is written and at its turn, by its session id
+  module _ (clean : judged sheet ≡ book.none) (turn : out_of_turn l.opened (kind_in sheet) ≡ false) where
+    like_on : (id : ℕ) → session_in sheet ≡ had id → is_start (kind_in sheet) ≡ false → (c : Bool) → eqb id l.session ≡ c
+        → cond (not c) (refused_as 32) (added_by l (not (closes (kind_in sheet))) sheet (firsts_of sheet)) ≡ booking_of (book_answer l sheet)
+    unfolding book_answer ledger_refusal unlike
+    like_on id q f true u = added_told id q u clean turn f
+    like_on id q f false u = rw (clean, turn, q, f, u)
+
+    start_on : (id : ℕ) → session_in sheet ≡ had id → (c : Bool) → is_start (kind_in sheet) ≡ c
+        → cond c (booking.Booked (ledger_as (meant.begun (had id))))
+        (cond (not (eqb id l.session)) (refused_as 32) (added_by l (not (closes (kind_in sheet))) sheet (firsts_of sheet)))
+        ≡ booking_of (book_answer l sheet)
+    unfolding book_answer ledger_refusal unlike meant.booked meant.begun too_much
+    start_on id q true f = rw (clean, turn, q, f)
+    start_on id q false f = like_on id q f (eqb id l.session) refl
+
+    session_on : (h : Had) → session_in sheet ≡ h → named_as l (kind_in sheet) sheet (firsts_of sheet) h ≡ booking_of (book_answer l sheet)
+    unfolding book_answer ledger_refusal unlike
+    session_on missing q = rw (clean, turn, q)
+    session_on (had id) q = start_on id q (is_start (kind_in sheet)) refl
 
   module _ (j : Judgement) (says : j ≡ judgement_of sheet) where
     pub book_30 : (x : _) → j ≡ judgement.Refused x → refused_as 30 ≡ booking_of (book_answer l sheet)
@@ -201,25 +248,7 @@ module _ (l : meant.Ledger) (sheet : List ℕ) (o : Octets sheet) where
           → r ≡ booking_of (book_answer l sheet)
       unfolding named_by firsts_of
       book_on b s t r is =
-          is ∙ ap (λ (h : Had). named_as l kind sheet (firsts_of sheet) h) (session_told sheet o) ∙ rw clean.kind_is (go (session_in sheet) refl)
+          is ∙ ap (λ (h : Had). named_as l kind sheet (firsts_of sheet) h) (session_told sheet o) ∙ rw clean.kind_is (session_on clean.accepted turn (session_in sheet) refl)
         where
           turn : out_of_turn l.opened (kind_in sheet) ≡ false
           turn = ap (out_of_turn l.opened) (sym clean.kind_is) ∙ sym s ∙ t
-
-          go : (h : Had) → session_in sheet ≡ h → named_as l (kind_in sheet) sheet (firsts_of sheet) h ≡ booking_of (book_answer l sheet)
-          unfolding book_answer ledger_refusal unlike
-          go missing q = rw (clean.accepted, turn, q)
-          go (had id) q = start (is_start (kind_in sheet)) refl
-            where
-              like : (c : Bool) → eqb id l.session ≡ c → is_start (kind_in sheet) ≡ false
-                  → cond (not c) (refused_as 32) (added_by l (not (closes (kind_in sheet))) sheet (firsts_of sheet)) ≡ booking_of (book_answer l sheet)
-              like true u f = added_told id q u clean.accepted turn f
-              like false u f = rw (clean.accepted, turn, q, f, u)
-
-              start : (c : Bool) → is_start (kind_in sheet) ≡ c
-                  → cond c (booking.Booked (ledger_as (meant.begun (had id))))
-                  (cond (not (eqb id l.session)) (refused_as 32) (added_by l (not (closes (kind_in sheet))) sheet (firsts_of sheet)))
-                  ≡ booking_of (book_answer l sheet)
-              unfolding meant.booked meant.begun too_much
-              start true f = rw (clean.accepted, turn, q, f)
-              start false f = like (eqb id l.session) refl f

@@ -1,6 +1,6 @@
 -- What the answers of this crate stand for, in the words of the meaning. Assumes nothing.
-use Rattle.std.specs.Prelude.{ℕ, Bool, cond, not, ◌||◌, List, ◌==◌}
-use Rattle.meaning.specs.Answers as meant
+use Rattle.std.specs.Prelude.{ℕ, Bool, cond, not, List, ◌==◌}
+use Rattle.meaning.specs.Answers as answering
 use Rattle.meaning.specs.Ledger as meant
 use Rattle.meaning.specs.Ledger.{Had, missing, had, Counter, octets_in, octets_out, packets_in, packets_out, is_start, closes}
 use Rattle.ledger.specs.declared.Account.{Account}
@@ -69,9 +69,9 @@ abbrev pub refused_as : (number : ℕ) → Booking
 refused_as n = booking.Refused (record { number = n; second = 0 })
 
 -- the next state, or a refusal by its number and second number
-abbrev pub booking_of : meant.Answer meant.Ledger → Booking
-booking_of (meant.given l) = booking.Booked (ledger_as l)
-booking_of (meant.refused n s) = booking.Refused (record { number = n; second = s })
+abbrev pub booking_of : answering.Answer meant.Ledger → Booking
+booking_of (answering.given l) = booking.Booked (ledger_as l)
+booking_of (answering.refused n s) = booking.Refused (record { number = n; second = s })
 
 -- the place of the first item of each counter's number
 abbrev pub place_of : Firsts → Counter → ℕ

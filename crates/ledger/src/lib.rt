@@ -22,14 +22,14 @@ const STOP: u8 = 3;
 const INTERIM: u8 = 6;
 
 // What is kept of a counter: the last reading had, and the total.
-#[derive(Drop)]
+#[derive(Clone, Copy)]
 pub struct Account {
     pub last: u32,
     pub total: u64,
 }
 
 // The ledger's state: whether a session is open, its id, and an account of each counter.
-#[derive(Drop)]
+#[derive(Clone, Copy)]
 pub struct Ledger {
     pub opened: bool,
     pub session: u64,
@@ -40,14 +40,14 @@ pub struct Ledger {
 }
 
 // What a call is answered: the next state, or a refusal.
-#[derive(Drop)]
+#[derive(Clone, Copy)]
 pub enum Booking {
     Booked(Ledger),
     Refused(Refusal),
 }
 
 // The places in a sheet of the first items that the ledger asks for; 0 where there is none.
-#[derive(Drop)]
+#[derive(Clone, Copy)]
 struct Firsts {
     input_octets: usize,
     output_octets: usize,
@@ -57,21 +57,21 @@ struct Firsts {
 }
 
 // A sheet's reading of a counter.
-#[derive(Drop)]
+#[derive(Clone, Copy)]
 enum Reading {
     Missing,
     Had(u32),
 }
 
 // A sheet's session id.
-#[derive(Drop)]
+#[derive(Clone, Copy)]
 enum Id {
     Missing,
     Had(u64),
 }
 
 // An account with a reading, or that its total would pass 64 bits.
-#[derive(Drop)]
+#[derive(Clone, Copy)]
 enum Counted {
     Held(Account),
     Over,
@@ -90,7 +90,7 @@ fn first(before: usize, here: bool, place: usize) -> usize
 }
 
 // The places of the first items of a sheet that is written: one walk over the items.
-fn firsts(sheet: &[u8]) -> Firsts
+fn firsts_in(sheet: &[u8]) -> Firsts
     requires { judged sheet.now ≡ none }
     ensures { result ≡ firsts_of sheet.now }
 {
@@ -181,12 +181,12 @@ fn out_of_turn(opened: bool, kind: u8) -> bool
 fn gap(earlier: u32, later: u32) -> u64
     ensures { result ≡ meant.gap earlier later }
 {
-    let apart = std::num::wrapping_sub_u32(later, earlier);
+    let apart = later.wrapping_sub(earlier);
     apart as u64
 }
 
 // An account with a sheet's reading of its counter.
-fn counted(account: Account, reading: Reading) -> Counted
+fn counted_with(account: Account, reading: Reading) -> Counted
     ensures { result ≡ counted_as (meant.counted (account_of account) (had_by reading)) }
 {
     match reading {
@@ -210,7 +210,7 @@ fn counted(account: Account, reading: Reading) -> Counted
 fn account_with(account: Account, sheet: &[u8], place: usize) -> Counted
     ensures { result ≡ counted_as (meant.counted (account_of account) (read_at 2 4 sheet.now place)) }
 {
-    counted(account, reading_at(sheet, place))
+    counted_with(account, reading_at(sheet, place))
 }
 
 // An account of nothing.
@@ -315,7 +315,7 @@ pub fn book(ledger: Ledger, sheet: &[u8]) -> Booking
             if out_of_turn(ledger.opened, kind) {
                 return refused(31);
             }
-            return named(ledger, kind, sheet, firsts(sheet));
+            return named(ledger, kind, sheet, firsts_in(sheet));
         }
     }
 }
