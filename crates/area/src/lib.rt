@@ -146,6 +146,7 @@ pub fn step_at(area: &[u8], place: usize) -> Step
 }
 
 // The number that is carried at a place.
+#[tactic(auto, using(crate::proofs::Carrying::number_other))]
 fn number_at(area: &[u8], place: usize) -> u16
     requires { place < length area.now }
     ensures { result ≡ number_at area.now place }

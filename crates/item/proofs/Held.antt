@@ -171,6 +171,17 @@ qos_short [] o n = absurd (omega arith)
 qos_short (x ∷ r) o n =
     sym (qos_held x r o ∙ rw (eq-eqb (length r) 3 (omega arith), ne_eqb (length r) 11 (λ e. omega arith), and-true (eqb x 98), and-false (eqb x 99)) (or-false (eqb x 98)))
 
+-- the same, of each of the four octets
+pub qos_four :
+    (st : List ℕ) → length st ≡ 4 → get_or st 0 0 < 256 → get_or st 1 0 < 256 → get_or st 2 0 < 256 → get_or st 3 0 < 256
+    → held qos 0 st ≡ eqb (get_or st 0 0) 98
+qos_four [] n p q r s = absurd (omega arith)
+qos_four (a ∷ []) n p q r s = absurd (omega arith)
+qos_four (a ∷ b ∷ []) n p q r s = absurd (omega arith)
+qos_four (a ∷ b ∷ x ∷ []) n p q r s = absurd (omega arith)
+qos_four (a ∷ b ∷ x ∷ y ∷ []) n p q r s = sym (qos_short (a ∷ b ∷ x ∷ y ∷ []) (p, (q, (r, (s, tt)))) n)
+qos_four (a ∷ b ∷ x ∷ y ∷ z ∷ l) n p q r s = absurd (omega arith)
+
 pub qos_long : (st : List ℕ) → Octets st → length st ≡ 12 → eqb (get_or st 0 0) 99 ≡ held qos 0 st
 qos_long [] o n = absurd (omega arith)
 qos_long (x ∷ r) o n =

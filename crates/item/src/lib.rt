@@ -75,6 +75,7 @@ pub fn carries(number: u16, value: &[u8]) -> bool
 }
 
 // Whether the shape of a code is digits, and it takes so many: 1 to 15, or 5 or 6.
+#[tactic(auto, using(crate::proofs::Shaping::takes_few))]
 pub fn takes_digits(code: u8, count: u8) -> bool
     ensures { result ≡ takes_digits (shape_by code) count }
 {
@@ -86,6 +87,7 @@ pub fn takes_digits(code: u8, count: u8) -> bool
 
 // Whether a value of a number stands as it is, in form 0 or 1, where the code is that of the number's shape: it takes that form, and an
 // attribute carries it.
+#[tactic(auto, using(crate::proofs::Judging::raw_missed, crate::proofs::Judging::raw_formless))]
 pub fn is_raw(number: u16, code: u8, form: u8, value: &[u8]) -> bool
     ensures { result ≡ raw number code form value.now }
 {
@@ -103,6 +105,7 @@ pub fn is_raw(number: u16, code: u8, form: u8, value: &[u8]) -> bool
 }
 
 // Whether octets are those of a QoS text: the release, 98 or 99, and as many octets as it has.
+#[tactic(auto, using(crate::proofs::Held::qos_four))]
 pub fn holds_qos(stored: &[u8]) -> bool
     ensures { result ≡ held qos 0 stored.now }
 {

@@ -179,6 +179,7 @@ fn meets_hex(value: &[u8], count: usize) -> bool
 }
 
 // Whether a value is "98-" or "99-", by the second digit, and `count` hexadecimal digits.
+#[tactic(auto, using(crate::proofs::Meeting::release_dash))]
 fn meets_release(value: &[u8], second: u8, count: usize) -> bool
     requires { count < 256 }
     ensures { result ≡ release current 57 second count value.now }

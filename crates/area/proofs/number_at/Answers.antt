@@ -1,16 +1,11 @@
 -- `area::number_at` meets its contract. Assumes nothing.
 use mathlib.Core.Path.{sym, ap, ◌∙◌}
 use Rattle.meaning.specs.Framing.{gpp}
-use Rattle.area.proofs.Carrying.{number_plain, number_other, number_gpp}
+use Rattle.area.proofs.Carrying.{number_plain, number_gpp}
 use Rattle.area.proofs.number_at.Goals as goal
 
 pub returns-then-t-ne26 : goal.returns-then-t-ne26
 returns-then-t-ne26 c = c.plain.ensures ∙ number_plain _ _ c.if-t-ne26.true
-
-pub returns-then-vendor-ne-VENDOR_3GPP : goal.returns-then-vendor-ne-VENDOR_3GPP
-returns-then-vendor-ne-VENDOR_3GPP c =
-    c.plain-then-vendor-ne-VENDOR_3GPP.ensures
-    ∙ number_other _ _ c.if-t-ne26.false (λ e. c.if-vendor-ne-VENDOR_3GPP.true (c.u32_at-vendor.ensures ∙ e))
 
 pub returns : goal.returns
 returns c =

@@ -6,9 +6,9 @@ use Prim.Native.Nat.{ℕ, ◌<◌}
 use mathlib.Core.Bool.{cond}
 use native.Mathlib.Omega.{arith}
 use Rattle.meaning.specs.Framing.{is_plain}
-use Rattle.item.proofs.Judging.{raw_other, raw_met, raw_missed, raw_formless}
+use Rattle.item.proofs.Judging.{raw_other, raw_met}
 use Rattle.item.proofs.is_raw.Goals as goal
-use Rattle.item.proofs.is_raw.Goals.{then-number-lt256, else-number-lt256, then-code-ge-NUMBER+else-meets_code, else-code-ge-NUMBER}
+use Rattle.item.proofs.is_raw.Goals.{then-number-lt256, else-number-lt256}
 
 -- the form of a value as it stands
 plain_form : (n p : ℕ) → ((n < 256) × (p ≡ 0)) ⊎ ((n < 256 → ⊥) × (p ≡ 1)) → p ≡ cond (is_plain n) 0 1
@@ -19,11 +19,3 @@ returns-then-form-plain c = raw_other _ _ _ _ (λ e. c.if-form-plain.true (e ∙
 
 pub returns-then-meets_code : goal.returns-then-meets_code
 returns-then-meets_code c = raw_met _ _ _ _ (omega arith) (sym c.meets_code.ensures ∙ c.if-meets_code.true)
-
-pub returns : goal.returns
-returns c =
-    let f = c.if-form-plain.false ∙ (plain_form c.args.number _ (elim c.if-number-lt256.branch [ then-number-lt256 w ↦ inl (w.if-number-lt256.true, w.plain-is) | else-number-lt256 w ↦ inr ((λ h. omega arith), w.plain-is) ])) in
-    c.carries.ensures ∙ (elim c.if-code-ge-NUMBER.branch [
-      | then-code-ge-NUMBER+else-meets_code w ↦ raw_missed _ _ _ _ f (sym w.meets_code.ensures ∙ w.if-meets_code.false)
-      | else-code-ge-NUMBER w ↦ raw_formless _ _ _ _ f (omega arith)
-    ])

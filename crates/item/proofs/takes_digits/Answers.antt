@@ -1,9 +1,6 @@
 -- The code that takes 5 or 6 digits, the one that takes 1 to 15, and any other. Assumes nothing.
-use Rattle.item.proofs.Shaping.{takes_few, takes_many}
+use Rattle.item.proofs.Shaping.{takes_many}
 use Rattle.item.proofs.takes_digits.Goals as goal
-
-pub returns-then-code-eq-SHORT_DIGITS : goal.returns-then-code-eq-SHORT_DIGITS
-returns-then-code-eq-SHORT_DIGITS c = takes_few c.args.code c.args.count c.if-code-eq-SHORT_DIGITS.true
 
 pub returns : goal.returns
 returns c = takes_many c.args.code c.args.count c.if-code-eq-SHORT_DIGITS.false
