@@ -359,6 +359,7 @@ fn transcribe(sheet: &[u8], buf: &mut [u8]) -> Pass
 }
 
 // What is said of a sheet by what its items say: 22 or 23, 24, or that it is written.
+#[tactic(auto, unfolding(crate::specs::Answers::ended_as))]
 fn ended(sheet: &[u8], pass: Pass) -> Judgement
     requires { 9 ≤ length sheet.now }
     ensures { result ≡ ended_as sheet.now pass }
