@@ -13,10 +13,10 @@ use Rattle.meaning.specs.Framing.{head_length, gpp, is_plain, vendor3gpp, Found,
 use Rattle.meaning.specs.Framing.{found_at}
 use Rattle.meaning.proofs.Octets.{octets_drop}
 use Rattle.octets.specs.Parts.{part_of}
-use Rattle.area.specs.Answers.{step_of, number_at, carried_as, carried_at}
+use Rattle.area.specs.Answers.{Step, step_of, number_at, carried_as, carried_at}
 use Rattle.area.specs.declared.Part.{Part}
-use Rattle.area.specs.declared.Step.{Step}
-use Rattle.area.specs.declared.Step.TheVariants as step
+use Rattle.std.specs.Prelude.{Option, Some, Ok}
+use Rattle.area.specs.declared.Carried.{Carried}
 use Rattle.area.proofs.Steps.{AttributeAt, step_attribute}
 
 -- ---- One law for each answer
@@ -119,21 +119,17 @@ module _ (l : List ℕ) (place : ℕ) (o : Octets l) where
 
   -- An attribute that is the answer of `step_at` is the one that is told.
   pub step_carried :
-      (r : Step) → r ≡ step_of place (found_at l place) → (number : ℕ) (value : Part) (behind : ℕ)
-      → r ≡ step.Attribute number value behind → record { number = number; value = value; next = behind } ≡ carried_at l place
-  step_carried r says number value behind q = go (found_at l place) refl (sym q ∙ says)
+      (r : Step) → r ≡ step_of place (found_at l place) → (x : Option Carried) → r ≡ Ok x → (a : Carried) → x ≡ Some a
+      → a ≡ carried_at l place
+  step_carried r says x was a q = go (found_at l place) refl (sym (was ∙ ap Ok q) ∙ says)
     where
-      stands : AttributeAt l place number value behind
-      stands = step_attribute l place r says number value behind q
+      stands : AttributeAt l place a.number a.value a.next
+      stands = step_attribute l place r says x was a q
 
-      go :
-          (f : Found) → found_at l place ≡ f → step.Attribute number value behind ≡ step_of place f
-          → record { number = number; value = value; next = behind } ≡ carried_at l place
+      go : (f : Found) → found_at l place ≡ f → Ok (Some a) ≡ step_of place f → a ≡ carried_at l place
       go (attribute n h s) p e =
           let here = found_carried (omega (arith, stands.onwards, stands.inside)) n h s p in
-          let en : n ≡ number = cc in
-          let ev : record { start = place + h; len = s - h } ≡ value = cc in
-          let eb : place + s ≡ behind = cc in
-          sym (here ∙ rw (en, ev, eb))
+          let ea : a ≡ record { number = n; value = record { start = place + h; len = s - h }; next = place + s } = cc in
+          ea ∙ sym here
       go (refused k) p e = absurd (let z : ◌≡◌ {A = ℕ} 0 1 = cc in omega arith)
       go nothing p e = absurd (let z : ◌≡◌ {A = ℕ} 0 1 = cc in omega arith)

@@ -11,7 +11,7 @@ ghost use Rattle.area.specs.Answers.{step_of, number_at, carried_at, arrival_of}
 pub const VENDOR_3GPP: u32 = 10415;
 
 // A refusal of the book: its number and its second number.
-#[derive(Clone, Copy)]
+#[derive(Clone, Copy, PartialEq, Eq)]
 pub struct Refusal {
     pub number: u32,
     pub second: usize,
@@ -24,20 +24,8 @@ pub struct Part {
     pub len: usize,
 }
 
-// What stands at a place: an attribute with the number it carries, 0 to 255 for a plain one and 256 more than the sub-attribute's
-// for a 3GPP one, its value and the place behind it; a refusal; or nothing, at the area's end.
-#[derive(Clone, Copy)]
-pub enum Step {
-    Attribute {
-        number: u16,
-        value: Part,
-        next: usize,
-    },
-    Refused(Refusal),
-    End,
-}
-
-// What a well framed area carries at a place: the number, the value and the place behind the attribute.
+// An attribute at a place of an area: the number that it carries, 0 to 255 for a plain one and 256 more than the sub-attribute's for a
+// 3GPP one, its value and the place behind it.
 #[derive(Clone, Copy)]
 pub struct Carried {
     pub number: u16,
@@ -45,12 +33,8 @@ pub struct Carried {
     pub next: usize,
 }
 
-// Whether an area comes with a kind, flags and a length that are allowed.
-#[derive(Clone, Copy)]
-pub enum Arrival {
-    Fit,
-    Refused(Refusal),
-}
+// What stands at a place: an attribute, nothing at the area's end, or a refusal.
+pub type Step = Result<Option<Carried>, Refusal>;
 
 // The number that a plain attribute of type t carries.
 fn plain(t: u8) -> u16
@@ -70,7 +54,7 @@ fn gpp(s: u8) -> u16
 fn refused(number: u32, place: usize) -> Step
     ensures { result ≡ step_of place (meant.refused number) }
 {
-    Step::Refused(Refusal {
+    Err(Refusal {
         number,
         second: place,
     })
@@ -81,14 +65,14 @@ fn attribute(number: u16, place: usize, head: usize, size: usize) -> Step
     requires { (head ≤ size) × (place + size < 2 ^ 64) }
     ensures { result ≡ step_of place (meant.attribute number head size) }
 {
-    Step::Attribute {
+    Ok(Some(Carried {
         number,
         value: Part {
             start: place + head,
             len: size - head,
         },
         next: place + size,
-    }
+    }))
 }
 
 // What stands at a place where the type is 26 and the length is `size`.
@@ -107,7 +91,7 @@ fn vendor_step(area: &[u8], place: usize, size: usize) -> Step
     if size < 8 {
         return refused(8, place);
     }
-    let m = octets::wide(area[place + 7]);
+    let m = usize::from(area[place + 7]);
     if 248 < m {
         return refused(8, place);
     }
@@ -118,19 +102,20 @@ fn vendor_step(area: &[u8], place: usize, size: usize) -> Step
     }
 }
 
-// What stands at a place of an area, whatever the place.
+// What stands at a place of an area, whatever the place. Inlined: a walk over an area by calls takes a third more time.
+#[inline]
 #[tactic(auto, using(crate::proofs::Found::found_one_octet, crate::proofs::Found::found_low))]
 pub fn step_at(area: &[u8], place: usize) -> Step
     ensures { result ≡ step_of place (found_at area.now place) }
 {
     if area.len() <= place {
-        return Step::End;
+        return Ok(None);
     }
     let left = area.len() - place;
     if left < 2 {
         return refused(4, place);
     }
-    let size = octets::wide(area[place + 1]);
+    let size = usize::from(area[place + 1]);
     if size < 2 {
         return refused(5, place);
     }
@@ -192,7 +177,7 @@ pub fn carried_at(area: &[u8], place: usize) -> Carried
     }
     let number = number_at(area, place);
     let head = head_len(number);
-    let size = octets::wide(octets::octet_at(area, place + 1));
+    let size = usize::from(octets::octet_at(area, place + 1));
     let next = place + size;
     Carried {
         number,
@@ -220,26 +205,26 @@ pub fn are_flags(flags: u32) -> bool
 
 // Whether what comes with an area is fit: the first of refusals 1 to 3 that applies, or none.
 #[tactic(auto, using(crate::proofs::Arriving::too_long))]
-pub fn arrive(area: &[u8], kind: u32, flags: u32) -> Arrival
+pub fn arrive(area: &[u8], kind: u32, flags: u32) -> Result<(), Refusal>
     ensures { result ≡ arrival_of kind flags (length area.now) }
 {
     if !is_kind(kind) {
-        return Arrival::Refused(Refusal {
+        return Err(Refusal {
             number: 1,
             second: 0,
         });
     }
     if !are_flags(flags) {
-        return Arrival::Refused(Refusal {
+        return Err(Refusal {
             number: 2,
             second: 0,
         });
     }
     if 4076 < area.len() {
-        return Arrival::Refused(Refusal {
+        return Err(Refusal {
             number: 3,
             second: area.len(),
         });
     }
-    Arrival::Fit
+    Ok(())
 }

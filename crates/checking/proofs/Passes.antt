@@ -21,7 +21,7 @@ use Rattle.area.specs.declared.Refusal.{Refusal}
 use Rattle.area.specs.declared.Part.{Part}
 use Rattle.area.specs.Answers.{carried_at}
 use Rattle.area.proofs.Steps.{AttributeAt, attribute_in}
-use Rattle.checking.specs.declared.Tally.TheVariants.{Whole, Broken}
+use Rattle.std.specs.Prelude.{Ok, Err}
 use Rattle.checking.specs.Lists.{LaysEntries, LaysOne, view_at, Notes, AlongSays}
 use Rattle.checking.proofs.Laying.{put_not, laid_none, laid_then, laid_kept, chosen_none, chosen_then, chosen_append, chosen_few}
 use Rattle.checking.proofs.Walking.{Reaches, reaches_more}
@@ -165,7 +165,7 @@ module _ (c : Context) (l d out : List ℕ) (seen : List Bool) (place written : 
       }
 
   -- none is left: what was laid, and what was seen
-  pub passing_done : walk_at l place ≡ end → AlongSays c l d (Whole written) out seen
+  pub passing_done : walk_at l place ≡ end → AlongSays c l d (Ok written) out seen
   unfolding AlongSays along chosen attributes fault
   passing_done h =
       let laid : chosen (along c [] (views_of c (walk l))) ≡ k.gone =
@@ -181,6 +181,6 @@ module _ (c : Context) (l d out : List ℕ) (seen : List Bool) (place written : 
 
   -- a refusal
   pub passing_broken : (refused : Refusal) → walk_at l place ≡ broken refused.number refused.second
-      → AlongSays c l d (Broken refused) out seen
+      → AlongSays c l d (Err refused) out seen
   unfolding AlongSays fault
   passing_broken refused h = record { first = k.same_fault ∙ ap fault h; kept = laid_kept k.gone d out 0 written k.lays }

@@ -16,12 +16,9 @@ use Rattle.meaning.specs.Answers.{over, after, check_answer}
 use Rattle.meaning.proofs.Tests.{parts, passes}
 use Rattle.meaning.proofs.Walked.{no_refusal}
 use Rattle.area.specs.declared.Refusal.{Refusal}
-use Rattle.area.specs.declared.Arrival.TheVariants.{Fit}
+use Rattle.std.specs.Prelude.{Result, Ok, Err}
 use Rattle.area.specs.Answers.{in_book, arrival_of}
 use Rattle.area.proofs.Arriving.{Arrived, fit_arrived}
-use Rattle.checking.specs.declared.Checking.TheVariants as is
-use Rattle.checking.specs.declared.Tally.{Tally}
-use Rattle.checking.specs.declared.Tally.TheVariants.{Whole, Broken}
 use Rattle.presence.specs.Rows.{row_of}
 use Rattle.checking.specs.Table.{Known}
 use Rattle.checking.specs.Lists.{LaysEntries, end_by, Ready, Broke, WalkedWhole, AlongSays, Listed, PassSays}
@@ -35,7 +32,7 @@ use Rattle.checking.proofs.Ends.{end_meant}
 -- What the attributes break and then the end are the whole list.
 pub pass_laid : (c : Context) (area codes : List ℕ) (seen : List Bool) → Ready c area codes → (d one held : List ℕ) (first said : ℕ)
     → WalkedWhole c area d first one seen → LaysEntries (chosen (end_by c codes seen (length area))) one first said held
-    → PassSays c area d (Whole said) held
+    → PassSays c area d (Ok said) held
 unfolding PassSays list_of breaches
 pass_laid c area codes seen y d one held first said p q =
     let end = end_meant c (length area) codes seen (numbers_of (views_of c (walk area))) y.known y.row p.notes in
@@ -47,21 +44,21 @@ pass_laid c area codes seen y d one held first said p q =
     }
 
 -- The answer of `along`, known by what it ensures and by the arm of a match.
-module _ (c : Context) (area d : List ℕ) (r : Tally) (held : List ℕ) (seen : List Bool) (says : AlongSays c area d r held seen) where
-  pub along_whole : (n : ℕ) → r ≡ Whole n → WalkedWhole c area d n held seen
+module _ (c : Context) (area d : List ℕ) (r : Result ℕ Refusal) (held : List ℕ) (seen : List Bool) (says : AlongSays c area d r held seen) where
+  pub along_whole : (n : ℕ) → r ≡ Ok n → WalkedWhole c area d n held seen
   unfolding AlongSays
-  along_whole n q = subst (λ (t : Tally). AlongSays c area d t held seen) q says
+  along_whole n q = subst (λ (t : Result ℕ Refusal). AlongSays c area d t held seen) q says
 
   -- a refusal is handed on
-  pub along_broken : (refused : Refusal) → r ≡ Broken refused → PassSays c area d (Broken refused) held
+  pub along_broken : (refused : Refusal) → r ≡ Err refused → PassSays c area d (Err refused) held
   unfolding AlongSays PassSays
-  along_broken refused q = subst (λ (t : Tally). AlongSays c area d t held seen) q says
+  along_broken refused q = subst (λ (t : Result ℕ Refusal). AlongSays c area d t held seen) q says
 
 -- ---- The answer
 
 -- The first that applies is a refusal, which leaves the buffer as it was.
 pub refused_checked : (c : Context) (area : List ℕ) (refused : Refusal) (d : List ℕ)
-    → area_refusal c.kind c.flags area ≡ in_book refused → Checked c area d (is.Refused refused) d
+    → area_refusal c.kind c.flags area ≡ in_book refused → Checked c area d (Err refused) d
 unfolding check_answer area_order after
 refused_checked c area refused d e = record { says = rw e; holds = rw e }
 
@@ -70,7 +67,7 @@ pub few_fit : (needed : ℕ) (p d : List ℕ) → needed ≤ length d → length
 few_fit needed p d h = omega (arith, length-take needed p)
 
 -- Nothing of 1 to 3 applies.
-module _ (c : Context) (area : List ℕ) (fit : arrival_of c.kind c.flags (length area) ≡ Fit) where
+module _ (c : Context) (area : List ℕ) (fit : arrival_of c.kind c.flags (length area) ≡ Ok tt) where
   arrived : Arrived c.kind c.flags area
   arrived = fit_arrived c.kind c.flags area (arrival_of c.kind c.flags (length area)) refl fit
 
@@ -82,19 +79,19 @@ module _ (c : Context) (area : List ℕ) (fit : arrival_of c.kind c.flags (lengt
       record { short = arrived.short; known = known; row = row_known c codes known e }
 
   -- The first pass lays into a buffer e of its own, which is p then.
-  module _ (d e p : List ℕ) (r : Tally) (first : PassSays c area e r p) where
+  module _ (d e p : List ℕ) (r : Result ℕ Refusal) (first : PassSays c area e r p) where
     -- the first of 4 to 8
-    pub framing_refused : (refused : Refusal) → r ≡ Broken refused → Checked c area d (is.Refused refused) d
+    pub framing_refused : (refused : Refusal) → r ≡ Err refused → Checked c area d (Err refused) d
     unfolding PassSays
     framing_refused refused q =
-        let b : Broke area e refused p = subst (λ (t : Tally). PassSays c area e t p) q first in
+        let b : Broke area e refused p = subst (λ (t : Result ℕ Refusal). PassSays c area e t p) q first in
         refused_checked c area refused d (arrived.left ∙ b.first)
 
     -- so many entries are needed
-    module _ (needed : ℕ) (q : r ≡ Whole needed) where
+    module _ (needed : ℕ) (q : r ≡ Ok needed) where
       whole : Listed c area e needed p
       unfolding PassSays
-      whole = subst (λ (t : Tally). PassSays c area e t p) q first
+      whole = subst (λ (t : Result ℕ Refusal). PassSays c area e t p) q first
 
       accepted : area_refusal c.kind c.flags area ≡ none
       accepted = arrived.left ∙ whole.sound
@@ -103,14 +100,14 @@ module _ (c : Context) (area : List ℕ) (fit : arrival_of c.kind c.flags (lengt
       counted = omega (arith, whole.lays.counts)
 
       -- refusal 10
-      pub too_long : length d < needed → Checked c area d (is.Refused (record { number = 10; second = needed })) d
+      pub too_long : length d < needed → Checked c area d (Err (record { number = 10; second = needed })) d
       unfolding check_answer area_order after
       too_long h =
           let t = lt-ltb (length d) (length (list_of c area)) (omega (arith, counted)) in
           record { says = rw (counted, accepted, t); holds = rw (accepted, t) }
 
       -- the list
-      list_given : (held : List ℕ) → needed ≤ length d → held ≡ over (list_of c area) d → Checked c area d (is.List needed) held
+      list_given : (held : List ℕ) → needed ≤ length d → held ≡ over (list_of c area) d → Checked c area d (Ok needed) held
       unfolding check_answer area_order after
       list_given held h same =
           let t = le-ltb (length d) (length (list_of c area)) (omega (arith, counted)) in
@@ -118,7 +115,7 @@ module _ (c : Context) (area : List ℕ) (fit : arrival_of c.kind c.flags (lengt
 
       -- it stands at the start of the buffer of the first pass, where that has room for it
       pub list_few : (held : List ℕ) → needed ≤ length e → needed ≤ length d → held ≡ over (take needed p) d
-          → Checked c area d (is.List needed) held
+          → Checked c area d (Ok needed) held
       unfolding over
       list_few held few h same =
           let list : List ℕ = list_of c area in
@@ -128,11 +125,9 @@ module _ (c : Context) (area : List ℕ) (fit : arrival_of c.kind c.flags (lengt
           list_given held h (same ∙ ap (λ (l : List ℕ). over l d) there)
 
       -- else another pass lays it
-      pub list_laid : (held : List ℕ) (said : Tally) → needed ≤ length d → PassSays c area d said held
-          → Checked c area d (is.List needed) held
+      pub list_laid : (held : List ℕ) (said : Result ℕ Refusal) → needed ≤ length d → PassSays c area d said held → Checked c area d said held
       unfolding PassSays
-      list_laid held said h second = list_given held h (laid said second)
-        where
-          laid : (said : Tally) → PassSays c area d said held → held ≡ over (list_of c area) d
-          laid (Whole n) s = laid_over (list_of c area) d held n s.lays (omega (arith, counted))
-          laid (Broken x) s = no_refusal x.number x.second (sym s.first ∙ whole.sound)
+      list_laid held (Ok n) h second =
+          let same : n ≡ needed = omega (arith, second.lays.counts, counted) in
+          rw same (list_given held h (laid_over (list_of c area) d held n second.lays (omega (arith, counted))))
+      list_laid held (Err x) h second = no_refusal x.number x.second (sym second.first ∙ whole.sound)

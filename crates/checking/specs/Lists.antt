@@ -1,6 +1,6 @@
 -- The book, "Breaches": the entries as the code lays them, by an attribute and by the end, from what the code has at hand: the row
 -- of the kind, the numbers noted, and whether an earlier attribute carries the number. Assumes nothing.
-use Rattle.std.specs.Prelude.{ℕ, ◌+◌, ◌*◌, ◌≤◌, ◌<◌, ◌≡◌, Bool, false, cond, not, ◌&&◌, List, [], ◌∷◌, ◌++◌, map, eqb, ltb, length, get_or}
+use Rattle.std.specs.Prelude.{ℕ, ◌+◌, ◌*◌, ◌≤◌, ◌<◌, ◌≡◌, Bool, false, cond, not, ◌&&◌, List, [], ◌∷◌, ◌++◌, map, eqb, ltb, length, get_or, Result, Ok, Err}
 use Rattle.std.proofs.lemmas.List.Edits.{sets}
 use Rattle.meaning.specs.Octets.{is_in}
 use Rattle.meaning.specs.Jobs.{Context}
@@ -11,8 +11,6 @@ use Rattle.meaning.specs.Breaches.{entry, once_only, asks_pdp_type}
 use Rattle.meaning.specs.Listing.{Candidate, View, view, put, chosen, along, demandable, wantable, numbers_of, views_of, list_of}
 use Rattle.area.specs.declared.Refusal.{Refusal}
 use Rattle.area.specs.Answers.{in_book}
-use Rattle.checking.specs.declared.Tally.{Tally}
-use Rattle.checking.specs.declared.Tally.TheVariants.{Whole, Broken}
 use Rattle.checking.specs.Table.{Known, Row}
 
 -- ---- Laying
@@ -71,6 +69,12 @@ abbrev pub wants_by : Context → (codes : List ℕ) (seen : List Bool) (place n
 wants_by c codes seen place n =
     record { key = entry place 7 n; stands = wanted_by c codes seen n && not (get_or seen n false) }
 
+-- what a test says of some numbers, in their order, is what tells whether the entries of a rule stand that are looked for of them
+abbrev pub Tested : (says : ℕ → Bool → Type 0) (by : ℕ → Candidate) (numbers : List ℕ) (place rule : ℕ) → Type 0
+Tested says by numbers place rule =
+    (k : ℕ) → k < length numbers → (b : Bool) → says (get_or numbers k 0) b
+    → by (get_or numbers k 0) ≡ record { key = entry place rule (get_or numbers k 0); stands = b }
+
 -- rules 5 to 7
 unfoldable pub end_by : Context → (codes : List ℕ) (seen : List Bool) (place : ℕ) → List Candidate
 end_by c codes seen place =
@@ -99,9 +103,9 @@ pub record WalkedWhole (c : Context) (area d : List ℕ) (said : ℕ) (held : Li
   pub notes : Notes seen (numbers_of (views_of c (walk area)))
 
 -- the same of any area
-unfoldable pub AlongSays : Context → (area d : List ℕ) → Tally → (held : List ℕ) (seen : List Bool) → Type 0
-AlongSays c area d (Whole n) held seen = WalkedWhole c area d n held seen
-AlongSays c area d (Broken r) held seen = Broke area d r held
+unfoldable pub AlongSays : Context → (area d : List ℕ) → Result ℕ Refusal → (held : List ℕ) (seen : List Bool) → Type 0
+AlongSays c area d (Ok n) held seen = WalkedWhole c area d n held seen
+AlongSays c area d (Err r) held seen = Broke area d r held
 
 -- what the pass over a whole area that is well framed says, and what the buffer holds then
 pub record Listed (c : Context) (area d : List ℕ) (said : ℕ) (held : List ℕ) : Type 0 where
@@ -109,6 +113,6 @@ pub record Listed (c : Context) (area d : List ℕ) (said : ℕ) (held : List �
   pub lays : LaysEntries (list_of c area) d 0 said held
 
 -- the same of any area
-unfoldable pub PassSays : Context → (area d : List ℕ) → Tally → (held : List ℕ) → Type 0
-PassSays c area d (Whole n) held = Listed c area d n held
-PassSays c area d (Broken r) held = Broke area d r held
+unfoldable pub PassSays : Context → (area d : List ℕ) → Result ℕ Refusal → (held : List ℕ) → Type 0
+PassSays c area d (Ok n) held = Listed c area d n held
+PassSays c area d (Err r) held = Broke area d r held

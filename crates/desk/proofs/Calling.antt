@@ -10,23 +10,22 @@ use Rattle.meaning.specs.Sheet.{version_in, sheet_as, Readable}
 use Rattle.meaning.specs.Answers.{Answer, given, refused, unless, after, Promise, Written, read_answer, write_answer, area_answer}
 use Rattle.meaning.proofs.Walked.{no_refusal}
 use Rattle.meaning.proofs.Answers.{read_exactly, written_reads, after_given, after_refused, after_start}
-use Rattle.desk.specs.declared.Refusal.{Refusal}
-use Rattle.desk.specs.declared.Reading.TheVariants as reading
-use Rattle.desk.specs.declared.Checking.TheVariants as checking
-use Rattle.desk.specs.declared.Writing.TheVariants as writing
+use Rattle.std.specs.Prelude.{Ok, Err}
+use Rattle.area.specs.declared.Refusal.{Refusal}
+use Rattle.writing.specs.declared.Written as said
 use Rattle.desk.specs.Answers.{reading_of, checking_of, writing_of}
 use Rattle.desk.specs.Calls.{ReadCall, WriteCall, sheet_for, by, Refuses, Gives, IsRead, IsWritten}
 
 -- ---- Refused
 
--- an enum shows an answer: its refusals are told apart, and are not what is given
+-- a result shows an answer: its refusals are told apart, and are not what is given
 pub record Shown {A X : Type 0} (show : Answer A → X) (lays : Answer A → Answer (List ℕ)) (case : Refusal → X) : Type 0 where
   pub shows : (n s : ℕ) → show (refused n s) ≡ case (by n s)
   pub keeps : (n s : ℕ) → lays (refused n s) ≡ refused n s
   pub one : (r r' : Refusal) → case r ≡ case r' → r ≡ r'
   pub apart : (a : A) (r : Refusal) → show (given a) ≡ case r → ⊥
 
-pub read_shown_lem : Shown reading_of (λ a. a) reading.Refused
+pub read_shown_lem : Shown reading_of (λ a. a) Err
 read_shown_lem =
     record {
       shows = λ n s. refl;
@@ -35,7 +34,7 @@ read_shown_lem =
       apart = λ a r e. let z : ◌≡◌ {A = ℕ} 0 1 = cc in omega arith;
     }
 
-pub check_shown_lem : Shown checking_of (λ a. a) checking.Refused
+pub check_shown_lem : Shown checking_of (λ a. a) Err
 check_shown_lem =
     record {
       shows = λ n s. refl;
@@ -44,7 +43,7 @@ check_shown_lem =
       apart = λ a r e. let z : ◌≡◌ {A = ℕ} 0 1 = cc in omega arith;
     }
 
-pub write_shown_lem : Shown writing_of area_answer writing.Refused
+pub write_shown_lem : Shown writing_of area_answer Err
 unfolding area_answer
 write_shown_lem =
     record {
@@ -89,7 +88,7 @@ was_read r i = go (read_answer r.kind r.flags r.area (length r.buffer)) refl (sy
   where
     go :
         (a : Answer (List ℕ)) → read_answer r.kind r.flags r.area (length r.buffer) ≡ a
-        → reading.Sheet i.size ≡ reading_of a → WasRead r i.size
+        → Ok i.size ≡ reading_of a → WasRead r i.size
     go (given s) p e =
         let x = (read_exactly r.kind r.flags r.area (length r.buffer) s).0 p in
         let size_is : i.size ≡ length s = cc in
@@ -112,11 +111,12 @@ was_written w i = go (write_answer w.sheet (length w.buffer)) refl (sym i.is ∙
   where
     go :
         (a : Answer Written) → write_answer w.sheet (length w.buffer) ≡ a
-        → writing.Area i.size i.kind i.flags ≡ writing_of a → WasWritten w i.size i.kind i.flags
+        → Ok (record { length = i.size; kind = i.kind; flags = i.flags }) ≡ writing_of a → WasWritten w i.size i.kind i.flags
     go (given v) p e =
-        let size_is : i.size ≡ length v.area = cc in
-        let kind_is : i.kind ≡ v.kind = cc in
-        let flags_is : i.flags ≡ v.flags = cc in
+        let is : record { length = i.size; kind = i.kind; flags = i.flags } ≡ record { length = length v.area; kind = v.kind; flags = v.flags } = cc in
+        let size_is : i.size ≡ length v.area = ap (λ (x : said.Written). x.length) is in
+        let kind_is : i.kind ≡ v.kind = ap (λ (x : said.Written). x.kind) is in
+        let flags_is : i.flags ≡ v.flags = ap (λ (x : said.Written). x.flags) is in
         let x = written_reads w.sheet (length w.buffer) v w.octets p in
         let area_is : take i.size w.held ≡ v.area = rw (size_is, w.promised.holds, p) (after_start v.area w.buffer) in
         record { readable = rw (kind_is, flags_is, area_is) x.readable; has = rw (kind_is, flags_is, area_is) x.is }

@@ -25,12 +25,8 @@ use Rattle.meaning.proofs.Placed.{list_lists}
 use Rattle.meaning.proofs.Presence.{status_alone}
 use Rattle.meaning.proofs.Entries.{can_break, Tells, one_telling, area_breach_tells, lacks_exactly}
 use Rattle.desk.specs.declared.Answer as exported
-use Rattle.desk.specs.declared.Reading.{Reading}
-use Rattle.desk.specs.declared.Reading.TheVariants as reading
-use Rattle.desk.specs.declared.Checking.{Checking}
-use Rattle.desk.specs.declared.Checking.TheVariants as checking
-use Rattle.desk.specs.declared.Writing.{Writing}
-use Rattle.desk.specs.declared.Writing.TheVariants as writing
+use Rattle.std.specs.Prelude.{Ok, Err}
+use Rattle.desk.specs.Answers.{Reading, Checking, Writing}
 use Rattle.desk.specs.Answers.{reading_of, checking_of, writing_of, Read, Checked, Wrote, ReadOut, CheckedOut, WroteOut}
 use Rattle.desk.specs.Calls.{ReadCall, CheckCall, WriteCall, sheet_for, OneAnswer, read_order, check_order, write_order, Refuses, Gives}
 use Rattle.desk.specs.Calls.{IsRead, IsWritten, Given, WritesBack, ReadsBack, ReadableCall, ListsBreaches}
@@ -60,17 +56,17 @@ one_writing_out sheet buffer = one_answer _ _ buffer
 -- changed then
 
 -- Reading is refused by the first of 1 to 9 that applies.
-pub read_refuses : (r : ReadCall) → Refuses reading.Refused (read_order r) r.buffer r.said r.held
+pub read_refuses : (r : ReadCall) → Refuses Err (read_order r) r.buffer r.said r.held
 unfolding read_answer
 read_refuses r = refuses read_shown_lem (read_order r) (sheet_for r) r.promised
 
 -- Checking is refused by the first of 1 to 8 and 10 that applies.
-pub check_refuses : (k : CheckCall) → Refuses checking.Refused (check_order k) k.buffer k.said k.held
+pub check_refuses : (k : CheckCall) → Refuses Err (check_order k) k.buffer k.said k.held
 unfolding check_answer
 check_refuses k = refuses check_shown_lem (check_order k) (list_of k.comes k.area) k.promised
 
 -- Writing is refused by the first of 20 to 25 that applies.
-pub write_refuses : (w : WriteCall) → Refuses writing.Refused (write_order w) w.buffer w.said w.held
+pub write_refuses : (w : WriteCall) → Refuses Err (write_order w) w.buffer w.said w.held
 unfolding write_answer
 write_refuses w =
     let area : Written = record { kind = kind_in w.sheet; flags = flags_in w.sheet; area = area_in w.sheet } in
@@ -80,7 +76,7 @@ write_refuses w =
 
 -- What is read is its sheet: it stands at the buffer's start, and nothing else changed.
 pub the_sheet_defined :
-    (r : ReadCall) → IsRead r → Gives (reading.Sheet (length (sheet_for r))) (sheet_for r) r.buffer r.said r.held
+    (r : ReadCall) → IsRead r → Gives (Ok (length (sheet_for r))) (sheet_for r) r.buffer r.said r.held
 the_sheet_defined r i = let x = was_read r i in gives r.promised (ap reading_of x.answer) x.answer x.room
 
 -- With a kind, flags and a length that are taken, and room for the sheet, being read and being well framed are one.
@@ -102,7 +98,7 @@ read_when_framed r g = (there, back)
 -- Where there is room, writing what was read gives back area, kind and flags.
 pub there_and_back :
     (r : ReadCall) (i : IsRead r) (w : WriteCall) → WritesBack r i w
-    → Gives (writing.Area (length r.area) r.kind r.flags) r.area w.buffer w.said w.held
+    → Gives (Ok (record { length = length r.area; kind = r.kind; flags = r.flags })) r.area w.buffer w.said w.held
 unfolding area_answer
 there_and_back r i w b =
     let x = was_read r i in
@@ -114,7 +110,7 @@ there_and_back r i w b =
 -- "reading the result gives that sheet"
 pub back_and_there :
     (w : WriteCall) (i : IsWritten w) (r : ReadCall) → ReadsBack w i r
-    → Gives (reading.Sheet (length w.sheet)) w.sheet r.buffer r.said r.held
+    → Gives (Ok (length w.sheet)) w.sheet r.buffer r.said r.held
 back_and_there w i r b =
     let x = was_written w i in
     let has : sheet_for r ≡ w.sheet = rw (b.made, b.kind_is, b.flags_is) x.has in
@@ -167,7 +163,7 @@ no_other_list k l m p q = one_list _ l m p q
 -- Where the area is readable, kind and flags are taken and there is room for such a list, the answer is that list.
 pub list_of_breaches :
     (k : CheckCall) → ReadableCall k → (l : List ℕ) → ListsBreaches k l → length l ≤ length k.buffer
-    → Gives (checking.List (length l)) l k.buffer k.said k.held
+    → Gives (Ok (length l)) l k.buffer k.said k.held
 list_of_breaches k a l lists room =
     let answer = check_given k.comes k.area (length k.buffer) l a lists room in
     gives k.promised (ap checking_of answer) answer room

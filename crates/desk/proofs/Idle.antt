@@ -17,12 +17,9 @@ use Rattle.meaning.specs.Answers.{given, over, after, read_answer}
 use Rattle.meaning.specs.Seen.{area_a, sheet_a}
 use Rattle.meaning.proofs.Placed.{list_lists}
 use Rattle.meaning.proofs.Computing.{computing}
-use Rattle.desk.specs.declared.Refusal.{Refusal}
-use Rattle.desk.specs.declared.Reading.{Reading}
-use Rattle.desk.specs.declared.Reading.TheVariants as reading
-use Rattle.desk.specs.declared.Checking.{Checking}
-use Rattle.desk.specs.declared.Checking.TheVariants as checking
-use Rattle.desk.specs.Answers.{reading_of, Read, Checked}
+use Rattle.std.specs.Prelude.{Ok, Err}
+use Rattle.area.specs.declared.Refusal.{Refusal}
+use Rattle.desk.specs.Answers.{Reading, Checking, reading_of, Read, Checked}
 use Rattle.desk.specs.Calls.{CheckCall}
 use Rattle.desk.proofs.Demands.{list_of_breaches}
 
@@ -69,13 +66,13 @@ p1_held b keeps = (keeps 4 0 area_a zeros).holds ∙ rw p1
 -- what is said is a refusal
 pub record Refusing (said : Reading) : Type 0 where
   pub what : Refusal
-  pub is : said ≡ reading.Refused what
+  pub is : said ≡ Err what
 
 -- A build that refuses everything: demand 2 says when an area is read, and P1 is.
 pub refuses_everything :
     (b : ReadBuild) → KeepsRead b → OnReadable (λ kind flags area buffer. Refusing (b kind flags area buffer).0) → ⊥
 refuses_everything b keeps idle =
-    let said : (b 4 0 area_a zeros).0 ≡ reading.Sheet 24 = (keeps 4 0 area_a zeros).says ∙ ap reading_of p1 in
+    let said : (b 4 0 area_a zeros).0 ≡ Ok 24 = (keeps 4 0 area_a zeros).says ∙ ap reading_of p1 in
     let other = (idle 4 0 area_a zeros p1_readable p1_room).is in
     let z : ◌≡◌ {A = ℕ} 0 1 = cc in
     omega arith
@@ -146,7 +143,7 @@ pub record Listable (c : Context) (area buffer l : List ℕ) : Type 0 where
 -- A build that makes the number of entries up: it is the length of any list of exactly the breaches.
 pub number_invented :
     (b : CheckBuild) → KeepsCheck b → (c : Context) (area buffer l : List ℕ) → Listable c area buffer l
-    → (n : ℕ) → (b c area buffer).0 ≡ checking.List n → n ≡ length l
+    → (n : ℕ) → (b c area buffer).0 ≡ Ok n → n ≡ length l
 number_invented b keeps c area buffer l a n said =
     let call : CheckCall =
     record {
@@ -159,7 +156,7 @@ number_invented b keeps c area buffer l a n said =
       promised = keeps c area buffer;
     } in
     let listed = list_of_breaches call a.readable l a.lists a.room in
-    let e : checking.List n ≡ checking.List (length l) = sym said ∙ listed.says in
+    let e : Ok n ≡ Ok (length l) = sym said ∙ listed.says in
     cc
 
 -- P4 and P5: the empty area in kinds 1 and 4 has three entries and two
@@ -193,7 +190,7 @@ OnListable Does = (c : Context) (area buffer l : List ℕ) → Listable c area b
 -- A build with one list for all, given wherever that has room too: P4 and P5 have different ones.
 pub list_fixed :
     (b : CheckBuild) → KeepsCheck b → (l : List ℕ)
-    → OnListable (λ c area buffer. length l ≤ length buffer → (b c area buffer).0 ≡ checking.List (length l)) → ⊥
+    → OnListable (λ c area buffer. length l ≤ length buffer → (b c area buffer).0 ≡ Ok (length l)) → ⊥
 list_fixed b keeps l fixed =
     let buffer : List ℕ = replicate (3 + length l) 0 in
     let long : length buffer ≡ 3 + length l = length-replicate {A = ℕ} (3 + length l) 0 in

@@ -1,6 +1,6 @@
 -- The words of the demands: a call of each job, what it is for a call to read, to write, to refuse and to give what was asked for, and
 -- what the demands suppose of a call. Assumes nothing.
-use Rattle.std.specs.Prelude.{ℕ, ◌≤◌, ◌≡◌, ◌↔◌, true, List, length, take}
+use Rattle.std.specs.Prelude.{ℕ, ◌≤◌, ◌≡◌, ◌↔◌, true, List, length, take, Ok}
 use Rattle.meaning.specs.Octets.{Octets}
 use Rattle.meaning.specs.Jobs.{is_kind, are_flags, Context}
 use Rattle.meaning.specs.Framing.{walk, attributes}
@@ -9,13 +9,8 @@ use Rattle.meaning.specs.Sheet.{sheet_of, Readable, area_in, judged}
 use Rattle.meaning.specs.Breaches.{Breach, Lists}
 use Rattle.meaning.specs.Listing.{list_of}
 use Rattle.meaning.specs.Answers.{LaidOver}
-use Rattle.desk.specs.declared.Refusal.{Refusal}
-use Rattle.desk.specs.declared.Reading.{Reading}
-use Rattle.desk.specs.declared.Reading.TheVariants as reading
-use Rattle.desk.specs.declared.Checking.{Checking}
-use Rattle.desk.specs.declared.Writing.{Writing}
-use Rattle.desk.specs.declared.Writing.TheVariants as writing
-use Rattle.desk.specs.Answers.{Read, Checked, Wrote}
+use Rattle.area.specs.declared.Refusal.{Refusal}
+use Rattle.desk.specs.Answers.{Reading, Checking, Writing, Read, Checked, Wrote}
 
 -- ---- The calls: what is handed over, what is said and what the lent buffer holds then. Every `&[u8]` that is handed over is octets.
 
@@ -85,14 +80,14 @@ pub record Gives {X : Type 0} (answer : X) (s buffer : List ℕ) (said : X) (hel
 -- an area is read: some sheet is answered
 pub record IsRead (r : ReadCall) : Type 0 where
   pub size : ℕ
-  pub is : r.said ≡ reading.Sheet size
+  pub is : r.said ≡ Ok size
 
 -- a sheet is written: some area is answered
 pub record IsWritten (w : WriteCall) : Type 0 where
   pub size : ℕ
   pub kind : ℕ
   pub flags : ℕ
-  pub is : w.said ≡ writing.Area size kind flags
+  pub is : w.said ≡ Ok (record { length = size; kind = kind; flags = flags })
 
 -- ---- What the demands suppose
 

@@ -15,33 +15,10 @@ pub const LONGEST_SHEET: usize = 8161;
 // No list is longer: at most three entries for each of 2,038 attributes, and twelve at the end.
 pub const LONGEST_LIST: usize = 6126;
 
-// A refusal of the book: its number and its second number.
-#[derive(Clone, Copy)]
-pub struct Refusal {
-    pub number: u32,
-    pub second: usize,
-}
-
-// What reading answers: the octets of the sheet that stands at the buffer's start, or a refusal.
-#[derive(Clone, Copy)]
-pub enum Reading {
-    Sheet(usize),
-    Refused(Refusal),
-}
-
-// What checking answers: the number of entries that stand at the list's start, or a refusal.
-#[derive(Clone, Copy)]
-pub enum Checking {
-    List(usize),
-    Refused(Refusal),
-}
-
-// What writing answers: the octets of the area that stands at the buffer's start, with the kind and flags of the sheet, or a refusal.
-#[derive(Clone, Copy)]
-pub enum Writing {
-    Area { length: usize, kind: u8, flags: u8 },
-    Refused(Refusal),
-}
+// A refusal of the book, by its number and its second number; and what is said of a sheet that is written: the octets of its area, its
+// kind and its flags.
+pub use area::Refusal;
+pub use writing::Written;
 
 // An answer for callers in C and Rust: `refused` is 0 where the job was done, with the octets or entries written as `length`, and 1
 // where it was refused, with the book's number and second number; `kind` and `flags` are a written sheet's. The rest is 0.
@@ -56,61 +33,17 @@ pub struct Answer {
     pub flags: u32,
 }
 
-// Read: the sheet of an area, at the buffer's start; a refusal leaves the buffer as it was.
-pub fn read(area: &[u8], kind: u32, flags: u32, sheet: &mut [u8]) -> Reading
-    ensures { Read kind flags area.now sheet.old result sheet.new }
-{
-    match reading::read(area, kind, flags, sheet) {
-        reading::Reading::Sheet(length) => {
-            return Reading::Sheet(length);
-        }
-        reading::Reading::Refused(refusal) => {
-            return Reading::Refused(Refusal {
-                number: refusal.number,
-                second: refusal.second,
-            });
-        }
-    }
-}
+impl From<Refusal> for Answer {
+    ghost from_gives = { λ r a. a ≡ refused_of r };
 
-// Check: the list of an area's breaches, at the buffer's start; a refusal leaves the buffer as it was.
-pub fn check(area: &[u8], kind: u32, flags: u32, list: &mut [u32]) -> Checking
-    ensures { Checked (comes kind flags) area.now list.old result list.new }
-{
-    match checking::check(area, kind, flags, list) {
-        checking::Checking::List(length) => {
-            return Checking::List(length);
-        }
-        checking::Checking::Refused(refusal) => {
-            return Checking::Refused(Refusal {
-                number: refusal.number,
-                second: refusal.second,
-            });
-        }
-    }
-}
-
-// Write: what a sheet was read from, the area at the buffer's start; a refusal leaves the buffer as it was.
-pub fn write(sheet: &[u8], area: &mut [u8]) -> Writing
-    ensures { Wrote sheet.now area.old result area.new }
-{
-    match writing::write(sheet, area) {
-        writing::Writing::Area {
-            length,
-            kind,
-            flags,
-        } => {
-            return Writing::Area {
-                length,
-                kind,
-                flags,
-            };
-        }
-        writing::Writing::Refused(refusal) => {
-            return Writing::Refused(Refusal {
-                number: refusal.number,
-                second: refusal.second,
-            });
+    fn from(refusal: Refusal) -> Answer {
+        Answer {
+            refused: 1,
+            number: refusal.number,
+            second: refusal.second as u64,
+            length: 0,
+            kind: 0,
+            flags: 0,
         }
     }
 }
@@ -129,18 +62,25 @@ fn done(length: usize, kind: u8, flags: u8) -> Answer
     }
 }
 
-// The answer of a job that was refused.
-fn refused(refusal: Refusal) -> Answer
-    ensures { result ≡ refused_of refusal }
+// Read: how many octets the sheet of an area has, which stands at the buffer's start; a refusal leaves the buffer as it was.
+pub fn read(area: &[u8], kind: u32, flags: u32, sheet: &mut [u8]) -> Result<usize, Refusal>
+    ensures { Read kind flags area.now sheet.old result sheet.new }
 {
-    Answer {
-        refused: 1,
-        number: refusal.number,
-        second: refusal.second as u64,
-        length: 0,
-        kind: 0,
-        flags: 0,
-    }
+    reading::read(area, kind, flags, sheet)
+}
+
+// Check: how many entries the list of an area's breaches has, which stands at the buffer's start; a refusal leaves the buffer as it was.
+pub fn check(area: &[u8], kind: u32, flags: u32, list: &mut [u32]) -> Result<usize, Refusal>
+    ensures { Checked (comes kind flags) area.now list.old result list.new }
+{
+    checking::check(area, kind, flags, list)
+}
+
+// Write: what a sheet was read from, the area at the buffer's start; a refusal leaves the buffer as it was.
+pub fn write(sheet: &[u8], area: &mut [u8]) -> Result<Written, Refusal>
+    ensures { Wrote sheet.now area.old result area.new }
+{
+    writing::write(sheet, area)
 }
 
 // `read`, for callers in C and Rust.
@@ -148,12 +88,8 @@ pub fn gir_read(area: &[u8], kind: u32, flags: u32, sheet: &mut [u8]) -> Answer
     ensures { ReadOut kind flags area.now sheet.old result sheet.new }
 {
     match read(area, kind, flags, sheet) {
-        Reading::Sheet(length) => {
-            return done(length, 0, 0);
-        }
-        Reading::Refused(refusal) => {
-            return refused(refusal);
-        }
+        Ok(length) => done(length, 0, 0),
+        Err(refusal) => Answer::from(refusal),
     }
 }
 
@@ -162,12 +98,8 @@ pub fn gir_check(area: &[u8], kind: u32, flags: u32, list: &mut [u32]) -> Answer
     ensures { CheckedOut (comes kind flags) area.now list.old result list.new }
 {
     match check(area, kind, flags, list) {
-        Checking::List(length) => {
-            return done(length, 0, 0);
-        }
-        Checking::Refused(refusal) => {
-            return refused(refusal);
-        }
+        Ok(length) => done(length, 0, 0),
+        Err(refusal) => Answer::from(refusal),
     }
 }
 
@@ -176,15 +108,7 @@ pub fn gir_write(sheet: &[u8], area: &mut [u8]) -> Answer
     ensures { WroteOut sheet.now area.old result area.new }
 {
     match write(sheet, area) {
-        Writing::Area {
-            length,
-            kind,
-            flags,
-        } => {
-            return done(length, kind, flags);
-        }
-        Writing::Refused(refusal) => {
-            return refused(refusal);
-        }
+        Ok(written) => done(written.length, written.kind, written.flags),
+        Err(refusal) => Answer::from(refusal),
     }
 }

@@ -2,15 +2,15 @@
 // writes a file: the program performs a step, and `next` says which one comes then.
 #![tactic(auto)]
 
-ghost use Rattle.std.specs.Prelude.{◌≡◌, cond, ◌∷◌, eqb};
+ghost use Rattle.std.specs.Prelude.{◌≡◌, ◌==◌, ◌∷◌, ◌<◌, ltb, length, position, IfOk};
 ghost use Rattle.meaning.specs.Octets.{same};
 ghost use Rattle.filing.specs.Steps.{onward, back, next_of};
 ghost use Rattle.filing.specs.Runs.{left};
 ghost use Rattle.filing.specs.Names.{up_to, line_of, ends_in_return, pair_by_ends, pair_of, folder_length, Named};
-ghost use Rattle.filing.specs.Outcomes.{refused_or, worse_of, digit_of};
+ghost use Rattle.filing.specs.Outcomes.{worse_of, digit_of};
 
 // A step of filing one sheet. IN names what is filed, OUT the name that the sheet gets; the temporary file stands in OUT's folder.
-#[derive(Clone, Copy)]
+#[derive(Clone, Copy, PartialEq, Eq)]
 pub enum Step {
     // reads IN: a kind octet, a flags octet and an area
     Take,
@@ -54,14 +54,16 @@ pub enum Step {
     Kept,
 }
 
-// How a step went.
-#[derive(Clone, Copy)]
+// How a step went. This is no Result: a run is a list of steps and their answers (`specs/Runs.antt`), and why a step went badly is no part
+// of it.
+#[derive(Clone, Copy, PartialEq, Eq)]
 pub enum Answer {
     Well,
     Badly,
 }
 
-// The step after one that went well.
+// The step after one that went well. A line a step, here and below, as in the definition that the theorems speak of (`onward`, `back`,
+// `left`).
 fn next_well(step: Step) -> Step
     ensures { result ≡ onward step }
 {
@@ -159,148 +161,112 @@ pub fn steps_left(step: Step) -> usize
 pub fn came_back(taken: &[u8], kind: u8, flags: u8, area: &[u8]) -> bool
     ensures { result ≡ same taken.now (kind ∷ flags ∷ area.now) }
 {
-    if taken.len() < 2 {
-        return false;
+    match taken {
+        [first, second, rest @ ..] => *first == kind && *second == flags && rest == area,
+        _ => false,
     }
-    if taken[0] != kind {
-        return false;
-    }
-    if taken[1] != flags {
-        return false;
-    }
-    octets::equal(&taken[2..], area)
 }
 
-// The octets before the first `x`, or all of them.
-fn before(s: &[u8], x: u8) -> usize
-    ensures { result ≡ up_to x s.now }
-{
-    let mut i: usize = 0;
-    while i < s.len() {
-        if s[i] == x {
-            return i;
-        }
-        i += 1;
-    }
-    i
-}
-
-// A line of a list: IN, a tab and OUT, the tab standing at a place; or what is wrong with it.
-#[derive(Clone, Copy)]
-pub enum Line {
-    Names(usize),
+// What is wrong with a line of a list.
+#[derive(Clone, Copy, PartialEq, Eq)]
+pub enum BadLine {
     NoTab,
     TwoTabs,
 }
 
-// What a line says, in which one tab stands between two names.
-pub fn split(line: &[u8]) -> Line
-    ensures { result ≡ line_of line.now }
+// The octets before the first `x`, if there is one.
+fn before(s: &[u8], x: u8) -> Option<usize>
+    ensures { result ≡ position (λ y. y == x) s.now }
 {
-    let tab = before(line, b'\t');
-    if line.len() <= tab {
-        return Line::NoTab;
+    s.iter().position(|y| *y == x)
+}
+
+// Whether there is an octet `x`.
+fn has(s: &[u8], x: u8) -> bool
+    ensures { result ≡ ltb (up_to x s.now) (length s.now) }
+{
+    s.contains(&x)
+}
+
+// The place of a line's tab, where one tab stands between two names, IN and OUT; or what is wrong with the line.
+pub fn split(line: &[u8]) -> Result<usize, BadLine>
+    ensures says { result ≡ line_of line.now }
+    ensures within { IfOk result (λ tab. tab < length line.now) }
+{
+    let Some(tab) = before(line, b'\t') else {
+        return Err(BadLine::NoTab);
+    };
+    if has(&line[tab + 1..], b'\t') {
+        return Err(BadLine::TwoTabs);
     }
-    let start = tab + 1;
-    if before(&line[start..], b'\t') < line.len() - start {
-        return Line::TwoTabs;
-    }
-    Line::Names(tab)
+    Ok(tab)
 }
 
 // Whether the last octet of a name is a carriage return.
+#[tactic(auto, unfolding(crate::specs::Names::ends_in_return))]
 pub fn ends_in_return(name: &[u8]) -> bool
     ensures { result ≡ ends_in_return name.now }
 {
-    if name.len() == 0 {
-        return false;
-    }
-    name[name.len() - 1] == b'\r'
+    name.last() == Some(&b'\r')
 }
 
-// Two names, IN and OUT: they fit, or what is wrong with them.
-#[derive(Clone, Copy)]
-pub enum Pair {
-    Fit,
+// What is wrong with two names, IN and OUT.
+#[derive(Clone, Copy, PartialEq, Eq)]
+pub enum BadPair {
     NoName,
     ZeroOctet,
     TooLong,
     CarriageReturn,
 }
 
-// What two names are by their ends. A carriage return there is taken for a part of the name only where names come exactly, and else for
+// Whether two names fit by their ends. A carriage return there is taken for a part of the name only where names come exactly, and else for
 // the end of a line.
-fn judge_ends(input: &[u8], out: &[u8], exact: bool) -> Pair
+#[tactic(auto, unfolding(crate::specs::Names::pair_by_ends))]
+fn judge_ends(input: &[u8], out: &[u8], exact: bool) -> Result<(), BadPair>
     ensures { result ≡ pair_by_ends exact input.now out.now }
 {
     if exact {
-        return Pair::Fit;
+        return Ok(());
     }
-    if ends_in_return(input) {
-        return Pair::CarriageReturn;
+    if ends_in_return(input) || ends_in_return(out) {
+        return Err(BadPair::CarriageReturn);
     }
-    if ends_in_return(out) {
-        return Pair::CarriageReturn;
-    }
-    Pair::Fit
+    Ok(())
 }
 
-// What two names are. A name has no octet 0; IN has at most 4,095 octets, OUT 4,086, so that the temporary file's name is a path too.
-pub fn judge_pair(input: &[u8], out: &[u8], exact: bool) -> Pair
+// Whether two names fit. A name has no octet 0; IN has at most 4,095 octets, OUT 4,086, so that the temporary file's name is a path too.
+#[tactic(auto, unfolding(crate::specs::Names::pair_of))]
+pub fn judge_pair(input: &[u8], out: &[u8], exact: bool) -> Result<(), BadPair>
     ensures { result ≡ pair_of exact input.now out.now }
 {
-    if input.len() == 0 {
-        return Pair::NoName;
+    if input.is_empty() || out.is_empty() {
+        return Err(BadPair::NoName);
     }
-    if out.len() == 0 {
-        return Pair::NoName;
+    if has(input, 0) || has(out, 0) {
+        return Err(BadPair::ZeroOctet);
     }
-    if before(input, 0) < input.len() {
-        return Pair::ZeroOctet;
-    }
-    if before(out, 0) < out.len() {
-        return Pair::ZeroOctet;
-    }
-    if 4095 < input.len() {
-        return Pair::TooLong;
-    }
-    if 4086 < out.len() {
-        return Pair::TooLong;
+    if 4095 < input.len() || 4086 < out.len() {
+        return Err(BadPair::TooLong);
     }
     judge_ends(input, out, exact)
 }
 
-// What came of a filing, or of all of them: all filed, some refused or short, trouble with some.
-#[derive(Clone, Copy)]
+// What came of a filing, or of all of them: all filed, some refused or short, trouble with some. What is worse is greater.
+#[derive(Clone, Copy, PartialEq, Eq, PartialOrd, Ord)]
 pub enum Outcome {
     Filed,
     Refused,
     Trouble,
 }
 
-// What came of all, where some were refused.
-fn refused_or(other: Outcome) -> Outcome
-    ensures { result ≡ refused_or other }
-{
-    match other {
-        Outcome::Filed => Outcome::Refused,
-        Outcome::Refused => Outcome::Refused,
-        Outcome::Trouble => Outcome::Trouble,
-    }
-}
-
 // What came of all, of what came of two parts of them.
 pub fn worse(one: Outcome, other: Outcome) -> Outcome
     ensures { result ≡ worse_of one other }
 {
-    match one {
-        Outcome::Filed => other,
-        Outcome::Refused => refused_or(other),
-        Outcome::Trouble => Outcome::Trouble,
-    }
+    one.max(other)
 }
 
-// The digit that tells what came of all: 0, 1 or 2, as text.
+// The digit that tells what came of all: 0, 1 or 2, as text. By name, and not by the order of the cases, so that each case says its own.
 pub fn digit(outcome: Outcome) -> u8
     ensures { result ≡ digit_of outcome }
 {
@@ -311,43 +277,32 @@ pub fn digit(outcome: Outcome) -> u8
     }
 }
 
-// The place behind an octet that is a slash, or what was found before.
-fn behind_slash(x: u8, next: usize, found: usize) -> usize
-    ensures { result ≡ cond (eqb x 47) next found }
-{
-    if x == b'/' { next } else { found }
-}
-
 // The octets of a path up to its last slash, the slash included; none if it has no slash.
 pub fn folder_len(path: &[u8]) -> usize
     ensures { result ≡ folder_length path.now }
 {
     let mut found: usize = 0;
-    let mut i: usize = 0;
-    while i < path.len() {
-        found = behind_slash(path[i], i + 1, found);
-        i += 1;
+    for (i, x) in path.iter().enumerate() {
+        if *x == b'/' {
+            found = i + 1;
+        }
     }
     found
 }
 
 // Writes the temporary file's name over the start of `name` and tells its octets: OUT's folder, `.gir-`, OUT's last name, `.tmp`. Where
-// there is no room, `name` stays as it was and the answer is 0.
-pub fn temporary(out: &[u8], name: &mut [u8]) -> usize
+// there is no room, `name` stays as it was.
+#[tactic(auto, using(crate::proofs::Names::folder_within))]
+pub fn temporary(out: &[u8], name: &mut [u8]) -> Option<usize>
     ensures { Named out.now name.old result name.new }
 {
-    if name.len() < 9 {
-        return 0;
+    if name.len() < 9 || name.len() - 9 < out.len() {
+        return None;
     }
-    if name.len() - 9 < out.len() {
-        return 0;
-    }
-    let folder = folder_len(out);
-    let first = [b'.', b'g', b'i', b'r', b'-'];
-    let last = [b'.', b't', b'm', b'p'];
-    octets::copy_at(name, 0, octets::part(out, 0, folder));
-    octets::copy_at(name, folder, &first);
-    octets::copy_at(name, folder + 5, octets::part(out, folder, out.len()));
-    octets::copy_at(name, out.len() + 5, &last);
-    out.len() + 9
+    let (folder, last) = out.split_at(folder_len(out));
+    octets::copy_at(name, 0, folder);
+    octets::copy_at(name, folder.len(), b".gir-");
+    octets::copy_at(name, folder.len() + 5, last);
+    octets::copy_at(name, out.len() + 5, b".tmp");
+    Some(out.len() + 9)
 }

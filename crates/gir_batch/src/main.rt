@@ -7,17 +7,12 @@
 // trouble.
 #![tactic(auto)]
 
-ghost use Rattle.std.specs.Prelude.{◌≡◌, length};
-ghost use Rattle.std.specs.Io.{ReadsAtMost};
+ghost use Rattle.std.specs.Prelude.{◌+◌, ◌≤◌, length, IfOk};
+ghost use Rattle.gir_batch.specs.declared.TheConstants.{INPUT, LINES};
 
-use std::io::{Error, Print, Read, Result};
-
-// The status: every record has its line, one was broken, or there was trouble.
-const ANSWERED: u8 = 0;
-
-const BROKEN: u8 = 1;
-
-const TROUBLE: u8 = 2;
+use answering::Status;
+use lines::Text;
+use std::io::{Error, Print, Read};
 
 // The octets before a payload: job, room and length.
 const HEAD: usize = 9;
@@ -26,374 +21,314 @@ const HEAD: usize = 9;
 const KEPT: usize = 1048576;
 
 // Room for a record as far as it is kept.
-const INPUT: usize = 9 + 1048576;
+const INPUT: usize = HEAD + KEPT;
 
 // The octets that one read asks for.
 const PART: usize = 131072;
 
-// Which octets of the input buffer are read and not used yet: from `at` to `have`.
-#[derive(Clone, Copy)]
-struct Feed {
-    at: usize,
-    have: usize,
-}
+// Room for lines: 65,536 octets of those that wait, and the longest behind them.
+const LINES: usize = 65536 + printing::LONGEST_LINE;
 
-// What the octets that were read begin with.
+// ---- How a run ends
+
+// What could not be read or written, and the system's reason.
 #[derive(Drop)]
-enum Ahead {
-    Record { n: usize, kept: usize },
-    NoJob,
-    Part,
+struct Trouble {
+    with: &'static [u8],
+    error: Error,
 }
 
-// What waiting for input gives.
+// Why a run goes no further: each record has its line, the next one is broken, or there is trouble.
 #[derive(Drop)]
-enum Fed {
-    More(Feed),
-    End,
-    Failed(Error),
+enum Ending {
+    Answered,
+    Broken,
+    Troubled(Trouble),
 }
 
-// Whether all octets that are to be passed over were there.
-#[derive(Drop)]
-enum Skipped {
-    All,
-    End,
-    Failed(Error),
-}
-
-// How the program goes on: with what was read, so many octets of lines that wait, and the number of the next record; or that it ends,
-// with a status.
-#[derive(Drop)]
-enum Going {
-    On {
-        feed: Feed,
-        used: usize,
-        number: u64,
-    },
-    Ended(u8),
-}
-
-// ---- Writing
-
-// Writes octets out; where that fails it says so.
-fn write_out(rt: HostRuntime, s: &[u8]) -> bool {
-    if let Err(error) = rt.write_all(s) {
-        streams::fail(rt, b"gir_batch: standard output", error);
-        return false;
-    }
-    true
-}
-
-// Puts the line of a record behind the lines that wait, and tells how many octets wait then.
-fn put_line(
-    job: u8,
-    payload: &[u8],
-    n: usize,
-    room: usize,
-    sheet: &mut [u8],
-    list: &mut [u32],
-    out: &mut [u8],
-    used: usize,
-) -> usize {
-    if out.len() < used {
-        return 0;
-    }
-    let line = printing::record(job, payload, n, room, sheet, list, &mut out[used..]);
-    used + octets::least(line, out.len() - used)
-}
-
-// Writes the lines that wait, and behind them that a record is broken; tells the status.
-fn broken(rt: HostRuntime, waiting: &[u8], number: u64) -> u8 {
-    if !write_out(rt, waiting) {
-        return TROUBLE;
-    }
-    let word = lines::with(lines::nothing(), b"broken ");
-    let line = lines::with(lines::with_decimal(word, number), b"\n");
-    let text = line.octets;
-    if !write_out(rt, octets::part(&text, 0, line.len)) {
-        return TROUBLE;
-    }
-    BROKEN
-}
-
-// The number behind a number.
-fn behind(number: u64) -> u64 {
-    if number < u64::MAX {
-        number + 1
-    } else {
-        number
+impl From<Trouble> for Ending {
+    fn from(trouble: Trouble) -> Ending {
+        Ending::Troubled(trouble)
     }
 }
 
-// ---- Reading
+// ---- Standard input and output
 
-// Moves what is not used yet to the start of the buffer.
-fn moved(buf: &mut [u8], feed: Feed) -> Feed {
-    let at = feed.at;
-    let have = octets::least(feed.have, buf.len());
-    if have < at {
-        return Feed { at: 0, have: 0 };
-    }
-    if at == 0 {
-        return Feed { at, have };
-    }
-    let left = have - at;
-    let mut i: usize = 0;
-    while i < left {
-        buf[i] = buf[at + i];
-        i += 1;
-    }
-    Feed { at: 0, have: left }
-}
-
-// One read, to the buffer's start.
-fn read_some(rt: HostRuntime, buf: &mut [u8]) -> Result<usize>
-    ensures { ReadsAtMost result buf.new }
+// One read.
+fn read(rt: HostRuntime, buf: &mut [u8]) -> Result<usize, Trouble>
+    ensures { IfOk result (λ n. n ≤ length buf.new) }
 {
-    rt.stdin().read(buf)
+    rt.stdin().read(buf).map_err(|error| Trouble {
+        with: b"gir_batch: standard input",
+        error,
+    })
 }
 
-// One read, behind what the buffer holds already.
-fn read_behind(rt: HostRuntime, buf: &mut [u8], feed: Feed) -> Fed {
-    let have = octets::least(feed.have, buf.len());
-    let end = have + octets::least(PART, buf.len() - have);
-    match read_some(rt, &mut buf[have..end]) {
-        Ok(n) => {
-            if n == 0 {
-                return Fed::End;
-            }
-            Fed::More(Feed {
-                at: feed.at,
-                have: have + octets::least(n, PART),
-            })
-        }
-        Err(error) => Fed::Failed(error),
-    }
-}
-
-// Passes over some octets of the input, at most so many, and tells how many came.
-fn pass(rt: HostRuntime, count: usize) -> Result<usize> {
+// Passes over octets of the input. Where not all of them are there, the record is broken. The loop is written out, since no method of std
+// passes over octets of a reader by reads of this size.
+fn skip(rt: HostRuntime, count: usize) -> Result<(), Ending> {
     let mut chunk = streams::large_buffer();
-    let want = octets::least(count, 65536);
-    read_some(rt, &mut chunk[..want])
-}
-
-// Passes over octets of the input; whether all of them were there.
-fn skip(rt: HostRuntime, count: usize) -> Skipped {
     let mut left = count;
     while left > 0 {
-        match pass(rt, left) {
-            Ok(got) => {
-                if got == 0 {
-                    return Skipped::End;
-                }
-                left -= octets::least(got, left);
-            }
-            Err(error) => {
-                return Skipped::Failed(error);
+        let want = left.min(chunk.len());
+        let got = read(rt, &mut chunk[..want])?;
+        if got == 0 {
+            return Err(Ending::Broken);
+        }
+        left -= got;
+    }
+    Ok(())
+}
+
+// Writes octets out.
+fn write(rt: HostRuntime, s: &[u8]) -> Result<(), Trouble> {
+    rt.write_all(s).map_err(|error| Trouble {
+        with: b"gir_batch: standard output",
+        error,
+    })
+}
+
+// Writes that a record is broken.
+fn write_broken(rt: HostRuntime, number: u64) -> Result<(), Trouble> {
+    let line = Text::new()
+        .with(b"broken ")
+        .with_decimal(number)
+        .with(b"\n");
+    write(rt, line.as_slice())
+}
+
+// ---- What is read
+
+// A record, of whose payload of `all` octets some are kept.
+#[derive(Clone, Copy)]
+struct Record<'a> {
+    job: u8,
+    room: usize,
+    all: usize,
+    payload: &'a [u8],
+}
+
+impl Record<'_> {
+    // Lays its line over the start of `out`, and tells the octets; `sheet` and `list` are lent for what its job makes. It stays a call,
+    // since there the compiler knows that the buffers do not overlap: within its caller a batch takes 7 percent longer.
+    #[inline(never)]
+    fn lay_line(self, sheet: &mut [u8], list: &mut [u32], out: &mut [u8]) -> usize
+        ensures { result ≤ length out.new }
+    {
+        printing::record(
+            self.job,
+            self.payload,
+            self.all,
+            self.room,
+            sheet,
+            list,
+            out,
+        )
+    }
+}
+
+// Why octets begin with no record: there are too few of it, as far as it is kept, or its job is another than the desk's.
+#[derive(Clone, Copy)]
+enum NoRecord {
+    Part,
+    OtherJob,
+}
+
+// The octets that were read and are not used yet: those of `held` from `at` to `have`.
+#[derive(Drop)]
+struct Input {
+    held: [u8; INPUT],
+    at: usize,
+    have: usize,
+    ghost begun: { at ≤ have },
+    ghost within: { have ≤ INPUT },
+}
+
+impl Input {
+    fn new() -> Input {
+        Input {
+            held: streams::zeros(),
+            at: 0,
+            have: 0,
+        }
+    }
+
+    // The record that they begin with.
+    fn front(&self) -> Result<Record, NoRecord>
+        ensures { IfOk result (λ r. self.now.at + (HEAD + length r.payload.now) ≤ self.now.have) }
+    {
+        let unused = &self.held[self.at..self.have];
+        let (head, rest) = unused.split_at_checked(HEAD).ok_or(NoRecord::Part)?;
+        if !printing::is_job(head[0]) {
+            return Err(NoRecord::OtherJob);
+        }
+        let all = octets::u32_at(head, 5) as usize;
+        let payload = rest.get(..all.min(KEPT)).ok_or(NoRecord::Part)?;
+        Ok(Record {
+            job: head[0],
+            room: octets::u32_at(head, 1) as usize,
+            all,
+            payload,
+        })
+    }
+
+    // Goes past so many of them.
+    fn pass(&mut self, count: usize)
+        requires { self.old.at + count ≤ self.old.have }
+    {
+        self.at += count;
+    }
+
+    // Moves them to the start of the room.
+    fn settle(&mut self) {
+        let at = self.at;
+        if at == 0 {
+            return;
+        }
+        self.held.copy_within(at..self.have, 0);
+        self.at = 0;
+        self.have -= at;
+    }
+
+    // Reads behind them. At the input's end the run ends: what is left is a part of a record.
+    fn fill(&mut self, rt: HostRuntime) -> Result<(), Ending> {
+        self.settle();
+        let have = self.have;
+        let end = have + PART.min(INPUT - have);
+        match read(rt, &mut self.held[have..end])? {
+            0 if self.at < have => Err(Ending::Broken),
+            0 => Err(Ending::Answered),
+            n => {
+                self.have += n;
+                Ok(())
             }
         }
     }
-    Skipped::All
 }
 
-// What stands at the front of the octets that were read.
-fn front(buf: &[u8], feed: Feed) -> Ahead {
-    if feed.have < feed.at {
-        return Ahead::Part;
-    }
-    let left = feed.have - feed.at;
-    let head = octets::part(buf, feed.at, HEAD);
-    if left < HEAD {
-        return Ahead::Part;
-    }
-    if head.len() < HEAD {
-        return Ahead::Part;
-    }
-    if !printing::is_job(head[0]) {
-        return Ahead::NoJob;
-    }
-    let n = octets::u32_at(head, 5) as usize;
-    let kept = octets::least(n, KEPT);
-    if left - HEAD < kept {
-        return Ahead::Part;
-    }
-    Ahead::Record { n, kept }
+// ---- What is written
+
+// The lines that wait to be written: the first `used` octets of `held`.
+#[derive(Drop)]
+struct Lines {
+    held: [u8; LINES],
+    used: usize,
+    ghost within: { used ≤ LINES },
 }
 
-// ---- A turn
-
-// Says that the input cannot be read; tells the status.
-fn unread(rt: HostRuntime, error: Error) -> u8 {
-    streams::fail(rt, b"gir_batch: standard input", error);
-    TROUBLE
-}
-
-// Writes the lines that wait, and waits for input.
-fn wait(rt: HostRuntime, buf: &mut [u8], begun: Feed, waiting: &[u8], number: u64) -> Going {
-    if !write_out(rt, waiting) {
-        return Going::Ended(TROUBLE);
-    }
-    let feed = moved(buf, begun);
-    match read_behind(rt, buf, feed) {
-        Fed::More(then) => Going::On {
-            feed: then,
+impl Lines {
+    fn new() -> Lines {
+        Lines {
+            held: streams::zeros(),
             used: 0,
-            number,
-        },
-        Fed::End => {
-            if feed.at < feed.have {
-                return Going::Ended(broken(rt, b"", number));
-            }
-            Going::Ended(ANSWERED)
         }
-        Fed::Failed(error) => Going::Ended(unread(rt, error)),
     }
-}
 
-// Answers the record at the front, of whose payload of n octets so many are kept and read.
-fn answer(
-    buf: &[u8],
-    feed: Feed,
-    n: usize,
-    kept: usize,
-    sheet: &mut [u8],
-    list: &mut [u32],
-    out: &mut [u8],
-    used: usize,
-    number: u64,
-) -> Going {
-    let record = octets::part(buf, feed.at, HEAD + octets::least(kept, KEPT));
-    let job = octets::octet_at(record, 0);
-    let room = octets::u32_at(record, 1) as usize;
-    let payload = octets::part(record, HEAD, kept);
-    let then = put_line(job, payload, n, room, sheet, list, out, used);
-    Going::On {
-        feed: Feed {
-            at: octets::least(feed.at, INPUT) + HEAD + octets::least(kept, KEPT),
-            have: feed.have,
-        },
-        used: then,
-        number: behind(number),
+    // Whether the longest line has room behind them.
+    fn have_room(&self) -> bool {
+        printing::LONGEST_LINE <= LINES - self.used
     }
-}
 
-// The same of a payload that is longer than what is kept of it: the rest is passed over first, with no line waiting.
-fn answer_long(
-    rt: HostRuntime,
-    buf: &[u8],
-    feed: Feed,
-    n: usize,
-    kept: usize,
-    sheet: &mut [u8],
-    list: &mut [u32],
-    out: &mut [u8],
-    used: usize,
-    number: u64,
-) -> Going {
-    if !write_out(rt, octets::part(out, 0, used)) {
-        return Going::Ended(TROUBLE);
+    // Writes them out.
+    fn write(&mut self, rt: HostRuntime) -> Result<(), Trouble> {
+        write(rt, &self.held[..self.used])?;
+        self.used = 0;
+        Ok(())
     }
-    match skip(rt, n - octets::least(kept, n)) {
-        Skipped::All => answer(buf, feed, n, kept, sheet, list, out, 0, number),
-        Skipped::End => Going::Ended(broken(rt, b"", number)),
-        Skipped::Failed(error) => Going::Ended(unread(rt, error)),
-    }
-}
 
-// One turn: a record is answered, or lines are written and more is read.
-fn turn(
-    rt: HostRuntime,
-    buf: &mut [u8],
-    feed: Feed,
-    sheet: &mut [u8],
-    list: &mut [u32],
-    out: &mut [u8],
-    used: usize,
-    number: u64,
-) -> Going {
-    match front(buf, feed) {
-        Ahead::Part => wait(rt, buf, feed, octets::part(out, 0, used), number),
-        Ahead::NoJob => Going::Ended(broken(rt, octets::part(out, 0, used), number)),
-        Ahead::Record { n, kept } => {
-            if kept < n {
-                return answer_long(rt, buf, feed, n, kept, sheet, list, out, used, number);
-            }
-            // the longest line has room behind those that wait
-            if printing::LONGEST_LINE <= out.len() - octets::least(used, out.len()) {
-                return answer(buf, feed, n, kept, sheet, list, out, used, number);
-            }
-            if !write_out(rt, octets::part(out, 0, used)) {
-                return Going::Ended(TROUBLE);
-            }
-            answer(buf, feed, n, kept, sheet, list, out, 0, number)
-        }
+    // Puts the line of a record behind them; `sheet` and `list` are lent for what its job makes.
+    fn put(&mut self, record: Record, sheet: &mut [u8], list: &mut [u32]) {
+        let used = self.used;
+        self.used += record.lay_line(sheet, list, &mut self.held[used..]);
     }
 }
 
 // ---- The run
 
-// Room for what is read: zeros.
-fn input_buffer() -> [u8; 1048585]
-    ensures { 1048585 ≡ length result }
-{
-    [0; 1048585]
+// A run: what is read, the lines that wait, what is lent for a record's answer, and the number of the next record.
+#[derive(Drop)]
+struct Run {
+    input: Input,
+    lines: Lines,
+    sheet: [u8; desk::LONGEST_SHEET],
+    list: [u32; desk::LONGEST_LIST],
+    number: u64,
 }
 
-// Room for a sheet or an area, for a list, and for lines, 65,536 octets of those that wait and the longest behind them: zeros.
-fn sheet_buffer() -> [u8; 8161]
-    ensures { 8161 ≡ length result }
-{
-    [0; 8161]
-}
-
-fn list_buffer() -> [u32; 6126]
-    ensures { 6126 ≡ length result }
-{
-    [0; 6126]
-}
-
-fn line_buffer() -> [u8; 120670]
-    ensures { 120670 ≡ length result }
-{
-    [0; 120670]
-}
-
-// Answers the records of standard input; tells the status.
-fn answer_all(rt: HostRuntime) -> u8 {
-    let mut input = input_buffer();
-    let buf: &mut [u8] = &mut input;
-    let mut octets = sheet_buffer();
-    let sheet: &mut [u8] = &mut octets;
-    let mut entries = list_buffer();
-    let list: &mut [u32] = &mut entries;
-    let mut text = line_buffer();
-    let out: &mut [u8] = &mut text;
-    let mut feed = Feed { at: 0, have: 0 };
-    let mut used: usize = 0;
-    let mut number: u64 = 0;
-    for _ in 0..u64::MAX {
-        match turn(rt, buf, feed, sheet, list, out, used, number) {
-            Going::On {
-                feed: then,
-                used: waiting,
-                number: next,
-            } => {
-                feed = then;
-                used = waiting;
-                number = next;
-            }
-            Going::Ended(status) => {
-                return status;
-            }
+impl Run {
+    fn new() -> Run {
+        Run {
+            input: Input::new(),
+            lines: Lines::new(),
+            sheet: [0; desk::LONGEST_SHEET],
+            list: [0; desk::LONGEST_LIST],
+            number: 0,
         }
     }
-    TROUBLE
+
+    // One turn: a record is answered, or lines are written and more is read. What is not kept of a payload is passed over first, with no
+    // line waiting.
+    fn turn(&mut self, rt: HostRuntime) -> Result<(), Ending> {
+        let record = match self.input.front() {
+            Ok(record) => record,
+            Err(NoRecord::Part) => {
+                self.lines.write(rt)?;
+                return self.input.fill(rt);
+            }
+            Err(NoRecord::OtherJob) => return Err(Ending::Broken),
+        };
+        let kept = record.payload.len();
+        if kept < record.all {
+            self.lines.write(rt)?;
+            skip(rt, record.all - kept)?;
+        } else if !self.lines.have_room() {
+            self.lines.write(rt)?;
+        }
+        self.lines.put(record, &mut self.sheet, &mut self.list);
+        self.input.pass(HEAD + kept);
+        self.number = self.number.saturating_add(1);
+        Ok(())
+    }
+
+    // Turns until the run goes no further.
+    fn answer(&mut self, rt: HostRuntime) -> Result<(), Ending> {
+        for _ in 0..u64::MAX {
+            self.turn(rt)?;
+        }
+        Ok(())
+    }
+
+    // Writes what an ending leaves to be written.
+    fn end(&mut self, rt: HostRuntime, ending: Ending) -> Result<Status, Trouble> {
+        match ending {
+            Ending::Answered => Ok(Status::Answered),
+            Ending::Broken => {
+                self.lines.write(rt)?;
+                write_broken(rt, self.number)?;
+                Ok(Status::Faulty)
+            }
+            Ending::Troubled(trouble) => Err(trouble),
+        }
+    }
 }
 
-// Answers where there is no argument behind the first so many; tells the status.
-fn answer_arguments(rt: HostRuntime, passed: usize) -> u8 {
+// Answers the records of standard input.
+fn answer_all(rt: HostRuntime) -> Status {
+    let mut run = Run::new();
+    let Err(ending) = run.answer(rt) else {
+        return Status::Trouble;
+    };
+    match run.end(rt, ending) {
+        Ok(status) => status,
+        Err(trouble) => {
+            streams::fail(rt, trouble.with, trouble.error);
+            Status::Trouble
+        }
+    }
+}
+
+// Answers where there is no argument behind the first so many.
+fn answer_arguments(rt: HostRuntime, passed: usize) -> Status {
     if streams::argument_count(rt) <= passed {
         return answer_all(rt);
     }
@@ -401,14 +336,9 @@ fn answer_arguments(rt: HostRuntime, passed: usize) -> u8 {
         rt,
         b"gir_batch: records on standard input, and no argument but --status\n",
     );
-    TROUBLE
+    Status::Trouble
 }
 
 fn main(rt: HostRuntime) {
-    if streams::is_word(rt, 1, b"--status") {
-        let status = answer_arguments(rt, 2);
-        streams::tell(octets::digit_text(status));
-        return;
-    }
-    answer_arguments(rt, 1);
+    answering::told(rt, |passed| answer_arguments(rt, passed));
 }

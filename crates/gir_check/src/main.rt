@@ -4,84 +4,46 @@
 // argument the last act is to write a digit to descriptor 3.
 #![tactic(auto)]
 
-ghost use Rattle.std.specs.Prelude.{◌≡◌, length};
+ghost use Rattle.std.specs.Prelude.{◌≡◌};
+ghost use Rattle.gir_check.specs.Told.{told, status_of};
 
-use std::io::{Error, Print, Read};
+use answering::{Input, Job, Status};
+use std::io::{Print, Result};
 
-// The status where something could not be read or written. The others: 0 no breach, 1 breaches, refused or short.
-const TROUBLE: u8 = 2;
+// Room for the lines of the longest list.
+const LINES: usize = 9 * desk::LONGEST_LIST;
 
-// Says on standard error what could not be opened, read or written; tells the status.
-fn fail(rt: HostRuntime, name: &[u8], error: Error) -> u8 {
-    streams::say(rt, b"gir_check: ");
-    streams::fail(rt, name, error);
-    TROUBLE
-}
-
-// Room for the lines of the longest list: zeros.
-fn line_buffer() -> [u8; 55134]
-    ensures { 55134 ≡ length result }
+// The status of an answer: there is no breach where it has no octets.
+fn status_of(n: usize) -> Status
+    ensures { result ≡ status_of n }
 {
-    [0; 55134]
-}
-
-// Prints the answer for an input of which so much is kept as decides it; tells the status.
-fn print_answer(rt: HostRuntime, given: &[u8], all: usize) -> u8 {
-    let mut text = line_buffer();
-    let out: &mut [u8] = &mut text;
-    let n = printing::check(given, all, out);
-    if let Err(error) = rt.write_all(octets::part(out, 0, n)) {
-        return fail(rt, b"standard output", error);
-    }
-    if n == 0 { 0 } else { 1 }
-}
-
-// Answers the input; tells the status.
-fn answer<R: Read>(rt: HostRuntime, from: &mut R, name: &[u8]) -> u8 {
-    let mut buf = [0u8; printing::DECISIVE];
-    let kept = match streams::fill(from, &mut buf) {
-        Ok(kept) => kept,
-        Err(error) => return fail(rt, name, error),
-    };
-    let all = match streams::count(from, kept as u64) {
-        Ok(all) => all,
-        Err(error) => return fail(rt, name, error),
-    };
-    print_answer(rt, octets::part(&buf, 0, kept), all as usize)
-}
-
-// Answers the file that the argument at a place names; tells the status.
-fn answer_file(rt: HostRuntime, i: usize) -> u8 {
-    let mut name = [0u8; 4096];
-    let n = match streams::argument(rt, i, &mut name) {
-        Ok(n) => n,
-        Err(error) => return fail(rt, octets::part(&name, 0, 4096), error),
-    };
-    let told = octets::part(&name, 0, n);
-    match streams::open(rt, told) {
-        Ok(mut file) => answer(rt, &mut file, told),
-        Err(error) => fail(rt, told, error),
+    if n == 0 {
+        Status::Answered
+    } else {
+        Status::Faulty
     }
 }
 
-// Answers what the argument behind the first so many names, or standard input where there is none; tells the status.
-fn answer_arguments(rt: HostRuntime, passed: usize) -> u8 {
-    let args = streams::argument_count(rt);
-    if args <= passed {
-        return answer(rt, &mut rt.stdin(), b"standard input");
+// The check program's own part.
+struct Checking;
+
+impl Job for Checking {
+    ghost tells = { told };
+
+    const NAME: &'static [u8] = b"gir_check: ";
+
+    const USAGE: &'static [u8] = b"gir_check: one file at most\n";
+
+    // Prints the answer.
+    fn print(rt: HostRuntime, input: Input) -> Result<Status> {
+        let mut out = streams::zeros::<LINES>();
+        let n = printing::check(input.kept, input.all, &mut out);
+        rt.write_all(octets::part(&out, 0, n))?;
+        Ok(status_of(n))
     }
-    if args - passed == 1 {
-        return answer_file(rt, passed);
-    }
-    streams::say(rt, b"gir_check: one file at most\n");
-    TROUBLE
 }
 
 fn main(rt: HostRuntime) {
-    if streams::is_word(rt, 1, b"--status") {
-        let status = answer_arguments(rt, 2);
-        streams::tell(octets::digit_text(status));
-        return;
-    }
-    answer_arguments(rt, 1);
+    let mut room = [0u8; printing::DECISIVE];
+    answering::run::<Checking>(rt, &mut room);
 }

@@ -16,10 +16,10 @@ use Rattle.meaning.proofs.Octets.{octet_at}
 use Rattle.octets.specs.Parts.{part_of}
 use Rattle.octets.proofs.Parts.{part_within}
 use Rattle.area.specs.declared.Refusal.{Refusal}
-use Rattle.item.specs.declared.Headed.{Headed}
-use Rattle.item.specs.declared.Headed.TheVariants.{Item, Refused}
+use Rattle.std.specs.Prelude.{Ok, Err}
+use Rattle.item.specs.declared.Head.{Head}
 use Rattle.item.specs.Stands.{stands_for, stands_as}
-use Rattle.item.specs.Answers.{entered_at, head_refused, head_from, headed_at}
+use Rattle.item.specs.Answers.{Headed, entered_at, head_refused, head_from, headed_at}
 use Rattle.item.proofs.Judging.{sub_wrong, stands_as_lem}
 
 -- the judgement of an item whose octets are there
@@ -99,7 +99,7 @@ module _ (l : List ℕ) (p : ℕ) where
       unfolding headed_at head_from
       headed_sub e = let g = rw named at e in rw (le-ltb (length l - p) 4 (omega arith), le-ltb (length l - p) size_at (omega (arith, is)), g)
 
-      pub headed_item : ltb n 256 && not (eqb (get_or l (p + 1) 0) 0) ≡ false → Item n form_at count_at (p + (4 + k)) ≡ headed_at l p
+      pub headed_item : ltb n 256 && not (eqb (get_or l (p + 1) 0) 0) ≡ false → Ok (record { number = n; form = form_at; count = count_at; next = p + (4 + k) }) ≡ headed_at l p
       unfolding headed_at head_from
       headed_item e = let g = rw named at e in rw (le-ltb (length l - p) 4 (omega arith), le-ltb (length l - p) size_at (omega (arith, is)), g, named, is)
 
@@ -116,44 +116,49 @@ module _ (l : List ℕ) (p : ℕ) (o : Octets l) (r : Headed) (says : r ≡ head
     pub behind_is : behind ≡ p + size_at l p
     pub sub_is : ltb (number_at l p) 256 && not (eqb (get_or l (p + 1) 0) 0) ≡ false
 
+  -- what it says
+  abbrev here : Head
+  here = record { number = number_at l p; form = form_at l p; count = count_at l p; next = p + size_at l p }
+
   -- the octets that it stores
   stored_long : size_at l p ≤ length l - p → length (stored_at l p) ≡ stored_length current (form_at l p) (count_at l p)
   stored_long g = part_within l (p + 4) (stored_length current (form_at l p) (count_at l p)) (omega arith)
 
-  pub a_head : (number form count behind : ℕ) → r ≡ Item number form count behind → AHead number form count behind
+  pub a_head : (h : Head) → r ≡ Ok h → AHead h.number h.form h.count h.next
   unfolding headed_at head_from
-  a_head number form count behind q = go (ltb (length l - p) 4) (ltb (length l - p) (size_at l p)) (ltb (number_at l p) 256 && not (eqb (get_or l (p + 1) 0) 0)) refl refl (sym q ∙ says)
+  a_head h q = go (ltb (length l - p) 4) (ltb (length l - p) (size_at l p)) (ltb (number_at l p) 256 && not (eqb (get_or l (p + 1) 0) 0)) refl refl (sym q ∙ says)
     where
       go : (a b c : Bool) → ltb (length l - p) (size_at l p) ≡ b → ltb (number_at l p) 256 && not (eqb (get_or l (p + 1) 0) 0) ≡ c
-          → Item number form count behind ≡ cond a (head_refused 22 p)
-          (cond b (head_refused 22 p) (cond c (head_refused 23 p) (Item (number_at l p) (form_at l p) (count_at l p) (p + size_at l p))))
-          → AHead number form count behind
+          → Ok h ≡ cond a (head_refused 22 p)
+          (cond b (head_refused 22 p) (cond c (head_refused 23 p) (Ok here)))
+          → AHead h.number h.form h.count h.next
       go true b c g s e = absurd (let z : ◌≡◌ {A = ℕ} 0 1 = cc in omega arith)
       go false true c g s e = absurd (let z : ◌≡◌ {A = ℕ} 0 1 = cc in omega arith)
       go false false true g s e = absurd (let z : ◌≡◌ {A = ℕ} 0 1 = cc in omega arith)
       go false false false g s e =
+          let is : h ≡ here = cc in
           record {
             room = ltb-false (length l - p)
                 (size_at l p) g;
-            number_is = cc;
-            form_is = cc;
-            count_is = cc;
-            behind_is = cc;
+            number_is = ap (λ (x : Head). x.number) is;
+            form_is = ap (λ (x : Head). x.form) is;
+            count_is = ap (λ (x : Head). x.count) is;
+            behind_is = ap (λ (x : Head). x.next) is;
             sub_is = s;
           }
 
-  pub a_refusal : (refusal : Refusal) → r ≡ Refused refusal → (entered_at l p ≡ refused refusal.number) × (refusal.second ≡ p)
+  pub a_refusal : (refusal : Refusal) → r ≡ Err refusal → (entered_at l p ≡ refused refusal.number) × (refusal.second ≡ p)
   unfolding headed_at head_from
   a_refusal refusal q = go (ltb (length l - p) 4) (ltb (length l - p) (size_at l p)) (ltb (number_at l p) 256 && not (eqb (get_or l (p + 1) 0) 0)) refl refl refl (sym q ∙ says)
     where
-      with : (k : ℕ) → entered_at l p ≡ refused k → Refused refusal ≡ head_refused k p
+      with : (k : ℕ) → entered_at l p ≡ refused k → Err refusal ≡ head_refused k p
           → (entered_at l p ≡ refused refusal.number) × (refusal.second ≡ p)
       with k h e = let n : k ≡ refusal.number = cc in (h ∙ rw n, cc)
 
       go : (a b c : Bool) → ltb (length l - p) 4 ≡ a → ltb (length l - p) (size_at l p) ≡ b
           → ltb (number_at l p) 256 && not (eqb (get_or l (p + 1) 0) 0) ≡ c
-          → Refused refusal ≡ cond a (head_refused 22 p)
-          (cond b (head_refused 22 p) (cond c (head_refused 23 p) (Item (number_at l p) (form_at l p) (count_at l p) (p + size_at l p))))
+          → Err refusal ≡ cond a (head_refused 22 p)
+          (cond b (head_refused 22 p) (cond c (head_refused 23 p) (Ok here)))
           → (entered_at l p ≡ refused refusal.number) × (refusal.second ≡ p)
       go true b c h g s e = with 22 (no_head l p (ltb-true (length l - p) 4 h)) e
       go false true c h g s e = with 22 (no_stored l p (ltb-false (length l - p) 4 h) (ltb-true (length l - p) (size_at l p) g)) e

@@ -13,23 +13,20 @@ ghost use Rattle.item.specs.Answers.{headed_at, head_refused};
 use area::Refusal;
 
 // What the head of an item says: the number that it carries, 0 to 255 for a plain one and 256 more than the sub-attribute's for a 3GPP
-// one, its form and count, and the place behind the octets it stores; or a refusal, 22 or 23.
+// one, its form and count, and the place behind the octets it stores.
 #[derive(Clone, Copy)]
-pub enum Headed {
-    Item {
-        number: u16,
-        form: u8,
-        count: u8,
-        next: usize,
-    },
-    Refused(Refusal),
+pub struct Head {
+    pub number: u16,
+    pub form: u8,
+    pub count: u8,
+    pub next: usize,
 }
 
 // A refusal at a place.
-fn refused(number: u32, place: usize) -> Headed
+fn refused(number: u32, place: usize) -> Result<Head, Refusal>
     ensures { result ≡ head_refused number place }
 {
-    Headed::Refused(Refusal {
+    Err(Refusal {
         number,
         second: place,
     })
@@ -140,9 +137,9 @@ pub fn is_octet(code: u8, stored: &[u8]) -> bool
     }
 }
 
-// What the head of an item at a place of a sheet says, whatever the place.
+// What the head of an item at a place of a sheet says, whatever the place; or a refusal, 22 or 23.
 #[tactic(auto, using(crate::proofs::Entering::headed_short))]
-pub fn head_at(sheet: &[u8], place: usize) -> Headed
+pub fn head_at(sheet: &[u8], place: usize) -> Result<Head, Refusal>
     ensures { result ≡ headed_at sheet.now place }
 {
     if sheet.len() <= place {
@@ -163,10 +160,10 @@ pub fn head_at(sheet: &[u8], place: usize) -> Headed
     if (number < 256) & (sub != 0) {
         return refused(23, place);
     }
-    Headed::Item {
+    Ok(Head {
         number,
         form,
         count,
         next: place + size,
-    }
+    })
 }

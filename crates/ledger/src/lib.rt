@@ -2,34 +2,33 @@
 // gives the next one, or refuses by number.
 #![tactic(auto)]
 
-ghost use Rattle.std.specs.Prelude.{◌≡◌, ◌≤◌, ◌&&◌, length, if◌then◌else◌, ◌==◌};
+ghost use Rattle.std.specs.Prelude.{◌≡◌};
 ghost use Rattle.meaning.specs.Refusals.{none};
-ghost use Rattle.meaning.specs.Sheet.{judged, kind_in};
+ghost use Rattle.meaning.specs.Sheet.{judged};
 ghost use Rattle.meaning.specs.Ledger as meant;
-ghost use Rattle.ledger.specs.Firsts.{stood_at, read_at, firsts_of};
-ghost use Rattle.ledger.specs.Answers.{account_of, account_as, had_by, reading_by, id_by, counted_as, ledger_of, ledger_as, booking_of};
-ghost use Rattle.ledger.specs.Answers.{refused_as, added_by, named_by};
+ghost use Rattle.ledger.specs.Firsts.{value_at, read_at, firsts_of, firsts_with};
+ghost use Rattle.ledger.specs.Answers.{account_of, ledger_of, ledger_as, had_by, told_of, kind_number, kind_by};
+ghost use Rattle.ledger.specs.Answers.{refusal_as, counted_as, booking_of, added_by, named_by};
 
 use area::Refusal;
-use item::Headed;
-use writing::Judgement;
 
-// The kinds of message that a ledger takes.
-const START: u8 = 2;
-
-const STOP: u8 = 3;
-
-const INTERIM: u8 = 6;
+// A kind of message that a ledger takes.
+#[derive(Clone, Copy)]
+enum Kind {
+    Start,
+    Stop,
+    Interim,
+}
 
 // What is kept of a counter: the last reading had, and the total.
-#[derive(Clone, Copy)]
+#[derive(Clone, Copy, PartialEq, Eq, Default)]
 pub struct Account {
     pub last: u32,
     pub total: u64,
 }
 
 // The ledger's state: whether a session is open, its id, and an account of each counter.
-#[derive(Clone, Copy)]
+#[derive(Clone, Copy, PartialEq, Eq, Default)]
 pub struct Ledger {
     pub opened: bool,
     pub session: u64,
@@ -40,53 +39,68 @@ pub struct Ledger {
 }
 
 // What a call is answered: the next state, or a refusal.
-#[derive(Clone, Copy)]
-pub enum Booking {
-    Booked(Ledger),
-    Refused(Refusal),
-}
+pub type Booking = Result<Ledger, Refusal>;
 
-// The places in a sheet of the first items that the ledger asks for; 0 where there is none.
-#[derive(Clone, Copy)]
+// The places in a sheet of the first items that the ledger asks for, where there are such.
+#[derive(Clone, Copy, Default)]
 struct Firsts {
-    input_octets: usize,
-    output_octets: usize,
-    session: usize,
-    input_packets: usize,
-    output_packets: usize,
+    input_octets: Option<usize>,
+    output_octets: Option<usize>,
+    session: Option<usize>,
+    input_packets: Option<usize>,
+    output_packets: Option<usize>,
 }
 
-// A sheet's reading of a counter.
+// What a sheet tells a ledger: its reading of each counter and its session id, where it has them.
 #[derive(Clone, Copy)]
-enum Reading {
-    Missing,
-    Had(u32),
+struct Told {
+    input_octets: Option<u32>,
+    output_octets: Option<u32>,
+    session: Option<u64>,
+    input_packets: Option<u32>,
+    output_packets: Option<u32>,
 }
 
-// A sheet's session id.
-#[derive(Clone, Copy)]
-enum Id {
-    Missing,
-    Had(u64),
-}
-
-// An account with a reading, or that its total would pass 64 bits.
-#[derive(Clone, Copy)]
-enum Counted {
-    Held(Account),
-    Over,
+// A refusal of this number.
+fn refusal(number: u32) -> Refusal
+    ensures { result ≡ refusal_as number }
+{
+    Refusal { number, second: 0 }
 }
 
 // ---- What a sheet tells
 
-// The place of the first item of a number, by the place of one before, 0 for none, and an item here that has the number or not.
-fn first(before: usize, here: bool, place: usize) -> usize
-    ensures { result ≡ (if here && before == 0 then place else before) }
-{
-    if here & (before == 0) {
-        return place;
+impl Firsts {
+    // With one item more, of a number and at a place: it is the first of its number where none was before.
+    #[tactic(auto, unfolding(crate::specs::Firsts::firsts_with))]
+    fn with(self, number: u16, place: usize) -> Firsts
+        ensures { result ≡ firsts_with self number place }
+    {
+        let here = Some(place);
+        match number {
+            42 => Firsts {
+                input_octets: self.input_octets.or(here),
+                ..self
+            },
+            43 => Firsts {
+                output_octets: self.output_octets.or(here),
+                ..self
+            },
+            44 => Firsts {
+                session: self.session.or(here),
+                ..self
+            },
+            47 => Firsts {
+                input_packets: self.input_packets.or(here),
+                ..self
+            },
+            48 => Firsts {
+                output_packets: self.output_packets.or(here),
+                ..self
+            },
+            _ => self,
+        }
     }
-    before
 }
 
 // The places of the first items of a sheet that is written: one walk over the items.
@@ -94,90 +108,105 @@ fn firsts_in(sheet: &[u8]) -> Firsts
     requires { judged sheet.now ≡ none }
     ensures { result ≡ firsts_of sheet.now }
 {
-    let mut left = octets::u16_at(sheet, 7) as usize;
+    let count = octets::u16_at(sheet, 7);
     let mut place: usize = 9;
-    let mut input_octets: usize = 0;
-    let mut output_octets: usize = 0;
-    let mut session: usize = 0;
-    let mut input_packets: usize = 0;
-    let mut output_packets: usize = 0;
-    while left > 0 {
-        match item::head_at(sheet, place) {
-            Headed::Item { number, next, .. } => {
-                input_octets = first(input_octets, number == 42, place);
-                output_octets = first(output_octets, number == 43, place);
-                session = first(session, number == 44, place);
-                input_packets = first(input_packets, number == 47, place);
-                output_packets = first(output_packets, number == 48, place);
-                place = next;
-                left -= 1;
-            }
-            Headed::Refused(_) => {
-                left = 0;
-            }
-        }
+    let mut firsts = Firsts::default();
+    for _item in 0..count {
+        let Ok(head) = item::head_at(sheet, place) else {
+            unreachable!()
+        };
+        firsts = firsts.with(head.number, place);
+        place = head.next;
     }
-    Firsts {
-        input_octets,
-        output_octets,
-        session,
-        input_packets,
-        output_packets,
-    }
+    firsts
 }
 
-// Whether an item of this form stands at a place; at 0 there is none.
-fn stands(sheet: &[u8], place: usize, form: u8) -> bool
-    ensures { result ≡ stood_at form sheet.now place }
+// The place of the octets that the item at a place stores, if it has this form.
+#[tactic(auto, unfolding(crate::specs::Firsts::value_at))]
+fn value_at(sheet: &[u8], place: Option<usize>, form: u8) -> Option<usize>
+    ensures { result ≡ value_at form sheet.now place }
 {
-    if (place == 0) | (sheet.len() <= place) {
-        return false;
+    let place = place?;
+    if sheet.len() <= place {
+        return None;
     }
-    octets::octet_at(sheet, place + 2) == form
+    if octets::octet_at(sheet, place + 2) != form {
+        return None;
+    }
+    Some(place + 4)
 }
+
+// The two that follow differ in form, width and type: one function over both would have a parameter for each, and be no plainer.
 
 // The reading of the item at a place: its number, in form 2.
-fn reading_at(sheet: &[u8], place: usize) -> Reading
-    ensures { result ≡ reading_by (read_at 2 4 sheet.now place) }
+#[tactic(auto, unfolding(crate::specs::Firsts::read_at))]
+fn reading_at(sheet: &[u8], place: Option<usize>) -> Option<u32>
+    ensures { result ≡ read_at 2 4 sheet.now place }
 {
-    if !stands(sheet, place, 2) {
-        return Reading::Missing;
-    }
-    Reading::Had(octets::u32_at(sheet, place + 4))
+    let value = value_at(sheet, place, 2)?;
+    Some(octets::u32_at(sheet, value))
 }
 
 // The session id of the item at a place: its eight octets, in form 5.
-fn id_at(sheet: &[u8], place: usize) -> Id
-    ensures { result ≡ id_by (read_at 5 8 sheet.now place) }
+#[tactic(auto, unfolding(crate::specs::Firsts::read_at))]
+fn id_at(sheet: &[u8], place: Option<usize>) -> Option<u64>
+    ensures { result ≡ read_at 5 8 sheet.now place }
 {
-    if !stands(sheet, place, 5) {
-        return Id::Missing;
+    let value = value_at(sheet, place, 5)?;
+    Some(octets::u64_at(sheet, value))
+}
+
+impl Told {
+    // What a sheet that is written tells.
+    #[tactic(auto, using(octets::proofs::Parts::slice_octets, crate::proofs::Telling::all_told))]
+    fn by(sheet: &[u8]) -> Told
+        requires { judged sheet.now ≡ none }
+        ensures { result ≡ told_of sheet.now }
+    {
+        let firsts = firsts_in(sheet);
+        Told {
+            input_octets: reading_at(sheet, firsts.input_octets),
+            output_octets: reading_at(sheet, firsts.output_octets),
+            session: id_at(sheet, firsts.session),
+            input_packets: reading_at(sheet, firsts.input_packets),
+            output_packets: reading_at(sheet, firsts.output_packets),
+        }
     }
-    Id::Had(octets::u64_at(sheet, place + 4))
 }
 
 // ---- What comes of it
 
-fn refused(number: u32) -> Booking
-    ensures { result ≡ refused_as number }
-{
-    Booking::Refused(Refusal { number, second: 0 })
+// A kind by its number in a sheet; 31 where a ledger takes no such kind.
+impl TryFrom<u8> for Kind {
+    type Error = Refusal;
+
+    ghost try_from_gives = { λ number r. r ≡ kind_by number };
+
+    fn try_from(number: u8) -> Result<Kind, Refusal> {
+        match number {
+            2 => Ok(Kind::Start),
+            3 => Ok(Kind::Stop),
+            6 => Ok(Kind::Interim),
+            _ => Err(refusal(31)),
+        }
+    }
 }
 
-// Whether a kind is no START, STOP or Interim, or not at its turn.
-fn out_of_turn(opened: bool, kind: u8) -> bool
-    ensures { result ≡ meant.out_of_turn opened kind }
-{
-    if kind == START {
-        return opened;
+impl Kind {
+    // Whether it is not its turn: a START begins a session, and the others need an open one.
+    #[tactic(auto, unfolding(meaning::specs::Ledger::out_of_turn))]
+    fn is_out_of_turn(self, opened: bool) -> bool
+        ensures { result ≡ meant.out_of_turn opened (kind_number self) }
+    {
+        match self {
+            Kind::Start => opened,
+            Kind::Stop | Kind::Interim => !opened,
+        }
     }
-    if (kind == STOP) | (kind == INTERIM) {
-        return !opened;
-    }
-    true
 }
 
 // The later reading minus the earlier, modulo 2^32: subtracted as 32 bits, which roll over, and then widened.
+#[tactic(auto, unfolding(meaning::specs::Ledger::gap))]
 fn gap(earlier: u32, later: u32) -> u64
     ensures { result ≡ meant.gap earlier later }
 {
@@ -185,104 +214,64 @@ fn gap(earlier: u32, later: u32) -> u64
     apart as u64
 }
 
-// An account with a sheet's reading of its counter.
-fn counted_with(account: Account, reading: Reading) -> Counted
-    ensures { result ≡ counted_as (meant.counted (account_of account) (had_by reading)) }
-{
-    match reading {
-        Reading::Missing => {
-            return Counted::Held(account);
-        }
-        Reading::Had(later) => {
-            let more = gap(account.last, later);
-            if u64::MAX - account.total < more {
-                return Counted::Over;
-            }
-            return Counted::Held(Account {
-                last: later,
-                total: account.total + more,
-            });
-        }
+impl Account {
+    // With a sheet's reading of its counter; 33 where the total would pass 64 bits.
+    #[tactic(auto, unfolding(meaning::specs::Ledger::counted))]
+    fn with(self, reading: Option<u32>) -> Result<Account, Refusal>
+        ensures { result ≡ counted_as (meant.counted (account_of self) (had_by reading)) }
+    {
+        let Some(later) = reading else {
+            return Ok(self);
+        };
+        let more = gap(self.last, later);
+        let total = self.total.checked_add(more).ok_or(refusal(33))?;
+        Ok(Account { last: later, total })
     }
 }
 
-// The account of a counter with the reading at a place of a sheet.
-fn account_with(account: Account, sheet: &[u8], place: usize) -> Counted
-    ensures { result ≡ counted_as (meant.counted (account_of account) (read_at 2 4 sheet.now place)) }
-{
-    counted_with(account, reading_at(sheet, place))
-}
-
-// An account of nothing.
-fn cleared() -> Account
-    ensures { result ≡ account_as meant.cleared }
-{
-    Account { last: 0, total: 0 }
-}
-
-// A ledger whose session, with this id, has begun.
-fn begun(id: u64) -> Ledger
-    ensures { result ≡ ledger_as (meant.begun (meant.had id)) }
-{
-    Ledger {
-        opened: true,
-        session: id,
-        input_octets: cleared(),
-        output_octets: cleared(),
-        input_packets: cleared(),
-        output_packets: cleared(),
-    }
-}
-
-// The ledger with the readings of a STOP or an Interim, whose first items stand at these places; it stays open or not.
-fn added(ledger: Ledger, opened: bool, sheet: &[u8], at: Firsts) -> Booking
-    ensures { result ≡ added_by (ledger_of ledger) opened sheet.now at }
-{
-    let Counted::Held(input_octets) = account_with(ledger.input_octets, sheet, at.input_octets)
-    else {
-        return refused(33);
-    };
-    let Counted::Held(output_octets) = account_with(ledger.output_octets, sheet, at.output_octets)
-    else {
-        return refused(33);
-    };
-    let Counted::Held(input_packets) = account_with(ledger.input_packets, sheet, at.input_packets)
-    else {
-        return refused(33);
-    };
-    let Counted::Held(output_packets) = account_with(
-        ledger.output_packets,
-        sheet,
-        at.output_packets,
-    ) else {
-        return refused(33);
-    };
-    Booking::Booked(Ledger {
-        opened,
-        session: ledger.session,
-        input_octets,
-        output_octets,
-        input_packets,
-        output_packets,
-    })
-}
-
-// What comes of a sheet that is written, whose kind is at its turn and whose first items stand at these places.
-fn named(ledger: Ledger, kind: u8, sheet: &[u8], at: Firsts) -> Booking
-    ensures { result ≡ named_by (ledger_of ledger) kind sheet.now at }
-{
-    match id_at(sheet, at.session) {
-        Id::Missing => {
-            return refused(32);
+impl Ledger {
+    // Of a session, with this id, that has begun.
+    #[tactic(auto, unfolding(meaning::specs::Ledger::begun))]
+    fn begun(session: u64) -> Ledger
+        ensures { result ≡ ledger_as (meant.begun (meant.had session)) }
+    {
+        Ledger {
+            opened: true,
+            session,
+            ..fresh()
         }
-        Id::Had(id) => {
-            if kind == START {
-                return Booking::Booked(begun(id));
-            }
-            if id != ledger.session {
-                return refused(32);
-            }
-            return added(ledger, kind != STOP, sheet, at);
+    }
+
+    // With the readings of a STOP or an Interim; it stays open or not.
+    #[tactic(auto, unfolding(crate::specs::Answers::added_by, meaning::specs::Ledger::too_much))]
+    fn added(self, opened: bool, told: Told) -> Booking
+        ensures { result ≡ added_by (ledger_of self) opened told }
+    {
+        let input_octets = self.input_octets.with(told.input_octets)?;
+        let output_octets = self.output_octets.with(told.output_octets)?;
+        let input_packets = self.input_packets.with(told.input_packets)?;
+        let output_packets = self.output_packets.with(told.output_packets)?;
+        Ok(Ledger {
+            opened,
+            session: self.session,
+            input_octets,
+            output_octets,
+            input_packets,
+            output_packets,
+        })
+    }
+
+    // What comes of a sheet whose kind is at its turn.
+    #[tactic(auto, unfolding(crate::specs::Answers::named_by))]
+    fn named(self, kind: Kind, told: Told) -> Booking
+        ensures { result ≡ named_by (ledger_of self) (kind_number kind) told }
+    {
+        let id = told.session.ok_or(refusal(32))?;
+        match kind {
+            Kind::Start => Ok(Ledger::begun(id)),
+            _ if id != self.session => Err(refusal(32)),
+            Kind::Stop => self.added(false, told),
+            Kind::Interim => self.added(true, told),
         }
     }
 }
@@ -293,29 +282,20 @@ fn named(ledger: Ledger, kind: u8, sheet: &[u8], at: Firsts) -> Booking
 pub fn fresh() -> Ledger
     ensures { result ≡ ledger_as meant.fresh }
 {
-    Ledger {
-        opened: false,
-        session: 0,
-        input_octets: cleared(),
-        output_octets: cleared(),
-        input_packets: cleared(),
-        output_packets: cleared(),
-    }
+    Ledger::default()
 }
 
 // Books a sheet: the next state, or the first of refusals 30 to 33.
+#[tactic(auto, using(crate::proofs::Turns::answered), unfolding(writing::specs::Answers::judgement_of))]
 pub fn book(ledger: Ledger, sheet: &[u8]) -> Booking
     ensures { result ≡ booking_of (meant.book_answer (ledger_of ledger) sheet.now) }
 {
-    match writing::judge(sheet) {
-        Judgement::Refused(_) => {
-            return refused(30);
-        }
-        Judgement::Writable { kind, .. } => {
-            if out_of_turn(ledger.opened, kind) {
-                return refused(31);
-            }
-            return named(ledger, kind, sheet, firsts_in(sheet));
-        }
+    let Ok(written) = writing::judge(sheet) else {
+        return Err(refusal(30));
+    };
+    let kind = Kind::try_from(written.kind)?;
+    if kind.is_out_of_turn(ledger.opened) {
+        return Err(refusal(31));
     }
+    ledger.named(kind, Told::by(sheet))
 }

@@ -7,7 +7,7 @@ use native.Mathlib.Numerals.{add-one}
 use native.Mathlib.Omega.{arith}
 use borrow.Author.Tests.{lt-leb, leb-true, leb-false}
 use lib.Dec.{leb}
-use lib.ListN.{length, take, drop, get_or, replicate, length-append, length-take}
+use lib.ListN.{length, take, drop, get_or, replicate, length-append}
 use lib.Seq.{take-suc, take_all, length-take-le}
 use Rattle.meaning.specs.Octets.{octets_of, unpack, text}
 use Rattle.meaning.specs.Answers.{over}
@@ -47,38 +47,35 @@ unfolding entries_with
 entries_snoc b [] e = append-nil (entry_with b e)
 entries_snoc b (x ∷ l) e = ap (λ (t : List ℕ). entry_with b x ++ t) (entries_snoc b l e) ∙ sym (append_assoc (entry_with b x) (entries_with b l) (entry_with b e))
 
--- the first i entries of l stand over the start of d, of `end` that are to stand there
-pub record Entered (b : ℕ) (l : List ℕ) (end : ℕ) (d out : List ℕ) (i : ℕ) : Type 0 where
-  pub within : i ≤ end
-  pub inside : end ≤ length l
-  pub room : 9 * end ≤ length d
+-- the first i entries of l stand over the start of d
+pub record Entered (b : ℕ) (l d out : List ℕ) (i : ℕ) : Type 0 where
+  pub within : i ≤ length l
+  pub room : 9 * length l ≤ length d
   pub kept : length out ≡ length d
   pub is : out ≡ over (entries_with b (take i l)) d
 
-pub entered_none : (b : ℕ) (l : List ℕ) (end : ℕ) (d : List ℕ) → (end ≤ length l) × (9 * end ≤ length d) → Entered b l end d d 0
+pub entered_none : (b : ℕ) (l d : List ℕ) → 9 * length l ≤ length d → Entered b l d d 0
 unfolding entries_with
-entered_none b l end d h = record { within = omega arith; inside = h.0; room = h.1; kept = refl; is = sym (over_none d) }
+entered_none b l d h = record { within = omega arith; room = h; kept = refl; is = sym (over_none d) }
 
-pub entered_more : (b : ℕ) (l : List ℕ) (end : ℕ) (d out : List ℕ) (i : ℕ) (line held : List ℕ) (said : Bool) → Entered b l end d out i
-    → i < end → line ≡ entry_with b (get_or l i 0)
-    → Laid (9 * i) line out said held → length held ≡ length out → Entered b l end d held (i + 1)
-entered_more b l end d out i line held said u h e laid size =
+pub entered_more : (b : ℕ) (l d out : List ℕ) (i : ℕ) (line held : List ℕ) (said : Bool) → Entered b l d out i
+    → i < length l → line ≡ entry_with b (get_or l i 0)
+    → Laid (9 * i) line out said held → length held ≡ length out → Entered b l d held (i + 1)
+entered_more b l d out i line held said u h e laid size =
     let before : length (entries_with b (take i l)) ≡ 9 * i =
-    entries_length b (take i l) ∙ omega (arith, length-take-le i l (omega (arith, u.inside))) in
+    entries_length b (take i l) ∙ omega (arith, length-take-le i l u.within) in
     let nine : length line ≡ 9 = ap length e ∙ entry_length b (get_or l i 0) in
     let next : entries_with b (take i l) ++ line ≡ entries_with b (take (i + 1) l) =
-    ap (λ (t : List ℕ). entries_with b (take i l) ++ t) e ∙ sym (entries_snoc b (take i l) (get_or l i 0)) ∙ ap (entries_with b) (sym (rw (add-one i) (take-suc l i 0 (omega (arith, u.inside))))) in
+    ap (λ (t : List ℕ). entries_with b (take i l) ++ t) e ∙ sym (entries_snoc b (take i l) (get_or l i 0)) ∙ ap (entries_with b) (sym (rw (add-one i) (take-suc l i 0 h))) in
     record {
       within = omega arith;
-      inside = u.inside;
       room = u.room;
       kept = size ∙ u.kept;
       is = laid.holds ∙ laid_behind (entries_with b (take i l)) line d out (9 * i) before u.is (omega (arith, u.room)) ∙ ap (λ (t : List ℕ). over t d) next;
     }
 
-pub entered_all : (b : ℕ) (l : List ℕ) (end : ℕ) (d out : List ℕ) (i : ℕ) → Entered b l end d out i → end ≤ i
-    → out ≡ over (entries_with b (take end l)) d
-entered_all b l end d out i u h = let e : i ≡ end = omega (arith, u.within) in u.is ∙ rw e
+pub entered_all : (b : ℕ) (l d out : List ℕ) (i : ℕ) → Entered b l d out i → length l ≤ i → out ≡ over (entries_with b l) d
+entered_all b l d out i u h = u.is ∙ ap (λ (t : List ℕ). over (entries_with b t) d) (take_all i l h)
 
 -- ---- Whether they fit
 
@@ -104,19 +101,20 @@ take_least n l = go (leb n (length l)) refl
     go true e = let h : n ≤ length l = leb-true n (length l) e in let m : min n (length l) ≡ n = omega arith in rw m
     go false e = let h : length l < n = leb-false n (length l) e in take_all (min n (length l)) l (omega arith) ∙ sym (take_all n l (omega arith))
 
--- the first `count` of l are `end`
+-- the first `count` of l, of which there are `end`
 module _ (b : ℕ) (l d : List ℕ) (count end : ℕ) (e : end ≡ min count (length l)) where
   first : take end l ≡ take count l
   first = ap (λ (n : ℕ). take n l) e ∙ take_least count l
 
-  size : length (entries_with b (take count l)) ≡ 9 * end
-  size = entries_length b (take count l) ∙ omega (arith, length-take count l)
+  size : length (entries_with b (take count l)) ≡ 9 * length (take end l)
+  size = entries_length b (take count l) ∙ ap (λ (t : List ℕ). 9 * length t) (sym first)
 
-  pub entries_laid : (out : List ℕ) → 9 * end ≤ length d → out ≡ over (entries_with b (take end l)) d
-      → StartLaid (entries_with b (take count l)) d (9 * end) out
-  entries_laid out h o = start_laid (entries_with b (take count l)) d out (9 * end) size h (o ∙ ap (λ (t : List ℕ). over (entries_with b t) d) first)
+  pub entries_laid : (out : List ℕ) → 9 * length (take end l) ≤ length d → out ≡ over (entries_with b (take end l)) d
+      → StartLaid (entries_with b (take count l)) d (9 * length (take end l)) out
+  entries_laid out h o =
+      start_laid (entries_with b (take count l)) d out (9 * length (take end l)) size h (o ∙ ap (λ (t : List ℕ). over (entries_with b t) d) first)
 
-  pub entries_not : length d < 9 * end → StartLaid (entries_with b (take count l)) d 0 d
+  pub entries_not : length d < 9 * length (take end l) → StartLaid (entries_with b (take count l)) d 0 d
   entries_not h = start_not_laid (entries_with b (take count l)) d (omega (arith, size))
 
 -- Any two answers that the promise permits are the same, the buffer included.

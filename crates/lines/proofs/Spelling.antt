@@ -7,10 +7,8 @@ use native.Mathlib.Nat.{pow-suc}
 use native.Mathlib.Omega.{arith}
 use borrow.Author.Tests.{le-leb, lt-leb, leb-true, leb-false}
 use lib.Dec.{leb}
-use lib.ListN.{length, drop, set, length-append, length-set, drop_of_length-le}
-use lib.Seq.{drop-cons, drop-set-lt, get_or-set_same, lt-length-set}
-use Rattle.octets.specs.Parts.{part_of}
-use Rattle.octets.proofs.Parts.{part_rest}
+use lib.ListN.{length, take, drop, length-drop, set, length-append, length-set, drop_of_length-le}
+use lib.Seq.{take_all, drop-cons, drop-set-lt, get_or-set_same, lt-length-set}
 use Rattle.lines.specs.Lines.{decimal_in, decimal}
 
 -- up to 9 a number is its digit
@@ -115,9 +113,9 @@ spelling_more n out (suc w) rest u h =
     })
 
 pub spelling_all : (n : ℕ) (out : List ℕ) (from rest : ℕ) → Spelling n out from rest → rest ≤ 9
-    → part_of (set out from (rest + 48)) from 20 ≡ decimal n
+    → take (20 - from) (drop from (set out from (rest + 48))) ≡ decimal n
 spelling_all n out from rest u h =
     let size : length (set out from (rest + 48)) ≡ 20 = length-set out from (rest + 48) ∙ u.size in
-    part_rest (set out from (rest + 48)) from 20 (omega arith)
+    take_all (20 - from) (drop from (set out from (rest + 48))) (omega (arith, length-drop from (set out from (rest + 48))))
     ∙ put_here out from (rest + 48) (omega (arith, u.size, u.within))
     ∙ sym (u.is ∙ ap (λ (t : List ℕ). t ++ drop (suc from) out) (decimal_one from rest h))

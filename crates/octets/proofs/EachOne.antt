@@ -2,12 +2,15 @@
 use mathlib.Core.Path.{◌≡◌, refl, sym, ap, ap₂, ◌∙◌}
 use mathlib.Core.Bool.{Bool, true, false, ◌&&◌, and-true, and-false, and_assoc}
 use mathlib.Core.List.{List, [], ◌∷◌, ◌++◌}
-use Prim.Native.Nat.{ℕ, zero, suc, ◌+◌, ◌-◌, ◌%◌, ◌<◌, ◌≤◌}
+use Prim.Native.Nat.{ℕ, zero, suc, ◌+◌, ◌*◌, ◌-◌, ◌%◌, ◌<◌, ◌≤◌}
 use native.Mathlib.Numerals.{add-one}
 use native.Mathlib.Omega.{arith}
 use lib.Dec.{T}
 use lib.ListN.{length, take, drop, get_or, drop_of_length-le, take-append-drop}
-use lib.Seq.{drop-cons, drop-drop}
+use lib.Seq.{drop-cons, drop-drop, take-add}
+use native.Mathlib.Nat.{zero-mul, suc-mul}
+use Rattle.std.specs.List.{fold, list_all}
+use Rattle.std.specs.Simd.{first_chunks}
 use Rattle.meaning.specs.Octets.{all}
 use Rattle.octets.specs.Parts.{part_of}
 use Rattle.octets.proofs.Parts.{part_rest}
@@ -38,6 +41,14 @@ rest_passes p s i e = go (all p (drop i s)) refl
     go false f = sym (rest_fails p s i f) ∙ e
 
 -- ---- From the left
+
+-- the test folded over a list
+fold_from : (p : ℕ → Bool) (ok : Bool) (l : List ℕ) → fold (λ b x. b && p x) ok l ≡ ok && all p l
+fold_from p ok [] = sym (and-true ok)
+fold_from p ok (x ∷ l) = fold_from p (ok && p x) l ∙ and_assoc ok (p x) (all p l)
+
+pub fold_all : (p : ℕ → Bool) (l : List ℕ) → fold (λ b x. b && p x) true l ≡ all p l
+fold_all p l = fold_from p true l
 
 -- tests that pass together are the same
 pub same_test : (a b : Bool) → (T a → T b) → (T b → T a) → a ≡ b
@@ -108,6 +119,20 @@ all_covered p (x ∷ s) zero (suc k) h = twice (p x) (all p (take k s)) (all p s
     twice false b c e = refl
 all_covered p (x ∷ s) (suc j) zero h = absurd (omega arith)
 all_covered p (x ∷ s) (suc j) (suc k) h = and_assoc (p x) (all p (take k s)) (all p (drop j s)) ∙ ap (λ (b : Bool). p x && b) (all_covered p s j k (omega arith))
+
+-- The test of parts of n octets each is that of all that stand in them.
+all_chunks : (p : ℕ → Bool) (n k : ℕ) (s : List ℕ) → list_all (all p) (first_chunks n k s) ≡ all p (take (k * n) s)
+all_chunks p n zero s = rw (zero-mul n)
+all_chunks p n (suc k) s =
+    let size : suc k * n ≡ n + k * n = rw (suc-mul k n) (omega arith) in
+    ap (λ (b : Bool). all p (take n s) && b) (all_chunks p n k (drop n s))
+    ∙ sym (ap (λ (m : ℕ). all p (take m s)) size ∙ ap (all p) (take-add n (k * n) s) ∙ all_append p (take n s) (take (k * n) (drop n s)))
+
+-- With a last part, some of which may be tested already, they leave nothing out.
+pub chunks_last : (p : ℕ → Bool) (s last : List ℕ) (parts : List (List ℕ)) (n k : ℕ) → parts ≡ first_chunks n k s → length s - n ≤ k * n
+    → last ≡ drop (length s - n) s → (a b : Bool) → a ≡ list_all (all p) parts → b ≡ all p last → a && b ≡ all p s
+chunks_last p s last parts n k e h l a b ea eb =
+    ap₂ ◌&&◌ (ea ∙ ap (list_all (all p)) e ∙ all_chunks p n k s) (eb ∙ ap (all p) l) ∙ all_covered p s (length s - n) (k * n) h
 
 -- ---- From the end, by twos
 

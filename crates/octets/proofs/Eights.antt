@@ -266,7 +266,7 @@ value_packed (a ∷ b ∷ l) e =
     joined : (q w : ℕ) → (a * 16 + b) * q + w ≡ a * (q * 16) + (b * q + w)
     joined q w = rw (add-mul (a * 16) b q, mul_right_comm a 16 q, ← mul_assoc a q 16) (omega arith)
 
-power_some : (n : ℕ) → 0 < 16 ^ n
+pub power_some : (n : ℕ) → 0 < 16 ^ n
 power_some n = pow-le-pow_right {n = 16} (omega arith) {i = 0} {j = n} (omega arith)
 
 -- fifteens fill their place

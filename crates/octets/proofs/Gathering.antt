@@ -2,29 +2,31 @@
 -- Assumes nothing.
 use mathlib.Core.Path.{◌≡◌, refl, sym, ap, ap₂, ◌∙◌}
 use mathlib.Core.Bool.{Bool, true, false, ◌&&◌, and-false}
-use mathlib.Core.List.{List, [], ◌∷◌, ◌++◌, map-append}
+use mathlib.Core.List.{List, [], ◌∷◌, ◌++◌, map-append, reverse, reverse-cons}
 use Prim.Native.Nat.{ℕ, zero, suc, ◌+◌, ◌*◌, ◌-◌, ◌/◌, ◌%◌, ◌^◌, ◌<◌, ◌≤◌}
-use native.Mathlib.Nat.{pow-le-pow_right}
+use native.Mathlib.Nat.{pow-le-pow_right, pow-suc, mul_assoc, add-mul}
+use Rattle.std.proofs.Common.{pow-add}
 use native.Mathlib.Omega.{arith}
 use borrow.Author.Tests.{leb-true, leb-false, le-leb, lt-leb}
 use lib.Bits.{bit_or, bit_xor, and_high, xor_add_and}
 use lib.Dec.{T, eqb, leb}
-use lib.ListN.{length, take, drop, get_or, length-append, length-drop, drop_of_length-le}
-use lib.Seq.{drop-cons}
+use lib.ListN.{length, take, drop, length-append}
+use Rattle.std.specs.List.{fold}
+use Rattle.std.proofs.lemmas.List.Sums.{fold-append}
 use Rattle.meaning.specs.Octets.{Octets, all, number_of, octets_of, pack, packed_length, unpack, is_digit, digit_value, values}
 use Rattle.meaning.specs.Answers.{over}
 use Rattle.meaning.proofs.Octets.{octets_append}
-use Rattle.meaning.proofs.Numbers.{number_fits, number_snoc, octets_back}
+use Rattle.meaning.proofs.Numbers.{number_fits, octets_back}
 use Rattle.meaning.proofs.Packing.{Halves, pack_length, pack_octets, unpack_pack, values_length, values_halves, digits_hexes}
 use Rattle.meaning.proofs.Tests.{both, parts, passes, is_true}
 use Rattle.octets.specs.declared.Digits.{Digits}
 use Rattle.octets.specs.Parts.{part_of}
 use Rattle.octets.specs.DigitStrings.{padded, digits_of, gathered_of, got_of, turned_of, below_ten}
 use Rattle.octets.proofs.Parts.{part_within, part_rest, part_octets}
-use Rattle.octets.proofs.EachOne.{same_test, one_fails, all_append, all_covered}
-use Rattle.octets.proofs.Halves.{padded_length, padded_halves, padded_more}
+use Rattle.octets.proofs.EachOne.{same_test, all_append, all_covered}
+use Rattle.octets.proofs.Halves.{padded_length, padded_halves}
 use Rattle.octets.proofs.DigitStrings.{got_long, got_other, got_whole}
-use Rattle.octets.proofs.Eights.{or_none, value_in, number_in_lem, value_append, value_packed, value_filled, long_filled, short_filled}
+use Rattle.octets.proofs.Eights.{or_none, value_in, number_in_lem, value_append, value_packed, value_filled, power_some, long_filled, short_filled}
 
 -- ---- What a text gives
 
@@ -42,18 +44,7 @@ module _ (l : List ℕ) where
   unfolding gathered_of
   gathered_long h = simp (lt-leb (length l) 15 h)
 
--- ---- Two at a time from the end
-
--- an octet put before those of the digits l makes those of the digits m
-put_before : (l m : List ℕ) (o : ℕ) → length l ≤ 13 → pack (padded 15 15 m) ≡ o ∷ pack (padded 13 15 l)
-    → o * 256 ^ 7 + number_of (pack (padded 15 15 l)) / 256 ≡ number_of (pack (padded 15 15 m))
-unfolding number_of
-put_before l m o h e =
-    let seven : length (pack (padded 13 15 l)) ≡ 7 = pack_length (padded 13 15 l) ∙ ap (λ (n : ℕ). (n + 1) / 2) (padded_length l 13 h) in
-    let last : number_of (pack (padded 15 15 l)) ≡ number_of (pack (padded 13 15 l)) * 256 + 255 =
-    ap number_of (padded_more l 13 h) ∙ number_snoc (pack (padded 13 15 l)) 255 in
-    let front : number_of (pack (padded 15 15 l)) / 256 ≡ number_of (pack (padded 13 15 l)) = omega (arith, last) in
-    rw (e, seven, front)
+-- ---- One at a time from the end
 
 digit_bounds : (x : ℕ) → T (is_digit x) → (48 ≤ x) × (x ≤ 57)
 digit_bounds x t = let p = parts (leb 48 x) (leb x 57) t in (leb-true 48 x (is_true _ p.0), leb-true x 57 (is_true _ p.1))
@@ -62,71 +53,41 @@ digit_bounds x t = let p = parts (leb 48 x) (leb x 57) t in (leb-true 48 x (is_t
 digit_half : (x : ℕ) → T (is_digit x) → x % 16 ≡ digit_value x
 digit_half x t = let b = digit_bounds x t in rw (le-leb x 57 b.1) (omega arith)
 
--- from i on the text is digits, an even count of octets stands before it, and p is the number of those digits' eight octets
-pub record Gathered (text : List ℕ) (i p : ℕ) : Type 0 where
-  pub even : i % 2 ≡ 0
-  pub within : i ≤ length text
-  pub digits : T (all is_digit (drop i text))
-  pub is : p ≡ number_of (pack (padded 15 15 (values (drop i text))))
+-- a digit's half put before those of the digits l
+put_plain : (d w q k : ℕ) → 0 < q → (w * 16 + (q * 16 - 1)) / 16 + k ≡ k + w + (q - 1)
+put_plain d w q k some = omega arith
 
--- all but an odd last octet of the text is in front of what is gathered at first
-pub gathered_none : (text : List ℕ) → length text % 2 ≡ 0 → Gathered text (length text) 18446744073709551615
-unfolding padded over pack number_of values
-gathered_none text h =
-    let none : drop (length text) text ≡ [] = drop_of_length-le text {i = length text} (omega arith) in
-    record { even = h; within = omega arith; digits = rw none tt; is = rw none }
+put_number : (d v p q : ℕ) → 0 < q → p * q ≡ 1152921504606846976
+    → (v * (q * 16) + (q * 16 - 1)) / 16 + d * 1152921504606846976 ≡ (d * p + v) * q + (q - 1)
+put_number d v p q some e =
+    rw (← mul_assoc v q 16, add-mul (d * p) v q, mul_assoc d p q, e) (put_plain d (v * q) q (d * 1152921504606846976) some)
 
-pub gathered_odd : (text : List ℕ) → length text % 2 ≡ 1 → is_digit (get_or text (length text - 1) 0) ≡ true → (o r : ℕ)
-    → o ≡ get_or text (length text - 1) 0 % 16 * 16 + 15 → r ≡ o * 256 ^ 7 + 18446744073709551615 / 256 → Gathered text (length text - 1) r
-unfolding padded over pack number_of values
-gathered_odd text h e o r oe re =
-    let i : ℕ = length text - 1 in
-    let x : ℕ = get_or text i 0 in
-    let none : drop (suc i) text ≡ [] = drop_of_length-le text {i = suc i} (omega arith) in
-    let one : drop i text ≡ x ∷ [] = drop-cons text i 0 (omega arith) ∙ ap (λ (l : List ℕ). x ∷ l) none in
-    let octet : o ≡ digit_value x * 16 + 15 = oe ∙ ap (λ (y : ℕ). y * 16 + 15) (digit_half x (passes _ e)) in
-    record {
-      even = omega arith;
-      within = omega arith;
-      digits = rw one (passes (is_digit x && true) (rw e));
-      is = rw one (re ∙ rw octet (put_before [] (digit_value x ∷ []) (digit_value x * 16 + 15) (omega arith) refl));
-    }
+put_digit : (x : ℕ) (l : List ℕ) → length l ≤ 14 → T (is_digit x)
+    → number_of (pack (padded 15 15 (values l))) / 16 + x % 16 * 1152921504606846976 ≡ number_of (pack (padded 15 15 (values (x ∷ l))))
+unfolding values value_in
+put_digit x l few t =
+    let size = values_length l in
+    let r : ℕ = 15 - length l in
+    let power : 16 ^ length (values l) * 16 ^ r ≡ 1152921504606846976 =
+    sym (pow-add 16 (length (values l)) r) ∙ ap (λ (n : ℕ). 16 ^ n) {y = 15} (omega (arith, size)) in
+    rw (digit_half x t, value_filled (values l) (suc r) (omega (arith, size)) (omega arith), value_filled (values (x ∷ l)) r (omega (arith, size)) (omega arith), pow-suc 16 r)
+    (put_number (digit_value x) (value_in 16 (values l)) (16 ^ length (values l)) (16 ^ r) (power_some r) power)
 
-module _ (text : List ℕ) (i p : ℕ) (u : Gathered text i p) where
-  pub gathered_more : 0 < i → length text ≤ 15 → is_digit (get_or text (i - 2) 0) && is_digit (get_or text (i - 1) 0) ≡ true → (o r : ℕ)
-      → o ≡ get_or text (i - 2) 0 % 16 * 16 + get_or text (i - 1) 0 % 16 → r ≡ o * 256 ^ 7 + p / 256 → Gathered text (i - 2) r
-  unfolding padded over pack values
-  gathered_more h few e o r oe re =
-      let x : ℕ = get_or text (i - 2) 0 in
-      let y : ℕ = get_or text (i - 1) 0 in
-      let l : List ℕ = drop i text in
-      let second : suc (i - 2) ≡ i - 1 = omega (arith, u.even) in
-      let third : suc (i - 1) ≡ i = omega arith in
-      let two : drop (i - 2) text ≡ x ∷ y ∷ l = drop-cons text (i - 2) 0 (omega (arith, u.within)) ∙ ap (λ (m : List ℕ). x ∷ m) (rw second (drop-cons text (i - 1) 0 (omega (arith, u.within)) ∙ rw third)) in
-      let t = parts (is_digit x) (is_digit y) (passes _ e) in
-      let octet : o ≡ digit_value x * 16 + digit_value y = oe ∙ ap₂ (λ (a b : ℕ). a * 16 + b) (digit_half x t.0) (digit_half y t.1) in
-      let size : length (values l) ≤ 13 = omega (arith, values_length l, length-drop i text, u.even) in
-      record {
-        even = omega (arith, u.even);
-        within = omega (arith, u.within);
-        digits = rw two (both (is_digit x) (is_digit y && all is_digit l) t.0 (both (is_digit y) (all is_digit l) t.1 u.digits));
-        is = rw two (re ∙ rw (octet, u.is) (put_before (values l) (digit_value x ∷ digit_value y ∷ values l) (digit_value x * 16 + digit_value y) size refl));
-      }
+-- So all that are put are gathered.
+put_all : (l : List ℕ) → length l ≤ 15 → T (all is_digit l)
+    → fold (λ p x. p / 16 + x % 16 * 1152921504606846976) 18446744073709551615 (reverse l) ≡ number_of (pack (padded 15 15 (values l)))
+unfolding values padded over pack number_of
+put_all [] few t = refl
+put_all (x ∷ l) few t =
+    let p = parts (is_digit x) (all is_digit l) t in
+    ap (fold (λ p y. p / 16 + y % 16 * 1152921504606846976) 18446744073709551615) (reverse-cons x l)
+    ∙ fold-append (λ p y. p / 16 + y % 16 * 1152921504606846976) 18446744073709551615 (reverse l) (x ∷ [])
+    ∙ ap (λ (n : ℕ). n / 16 + x % 16 * 1152921504606846976) (put_all l (omega arith) p.1)
+    ∙ put_digit x l (omega arith) p.0
 
-  -- one of two octets that is no digit decides
-  pub gathered_not : 0 < i → is_digit (get_or text (i - 2) 0) && is_digit (get_or text (i - 1) 0) ≡ false → gathered_of text ≡ 0
-  gathered_not h e = gathered_other text (go (is_digit (get_or text (i - 2) 0)) (is_digit (get_or text (i - 1) 0)) refl refl e)
-    where
-      go : (a b : Bool) → is_digit (get_or text (i - 2) 0) ≡ a → is_digit (get_or text (i - 1) 0) ≡ b → a && b ≡ false → all is_digit text ≡ false
-      go true true f g k = absurd (passes false (sym k))
-      go true false f g k = one_fails is_digit text (i - 1) (omega (arith, u.within)) g
-      go false b f g k = one_fails is_digit text (i - 2) (omega (arith, u.within)) f
-
-  pub gathered_all : i ≤ 0 → length text ≤ 15 → p ≡ gathered_of text
-  gathered_all h few =
-      let none : i ≡ 0 = omega arith in
-      let t : T (all is_digit text) = rw none at u.digits in
-      rw none at u.is ∙ sym (gathered_digits text few (is_true _ t))
+pub gathered_put : (l : List ℕ) → length l ≤ 3 → all is_digit l ≡ true
+    → fold (λ p x. p / 16 + x % 16 * 1152921504606846976) 18446744073709551615 (reverse l) ≡ gathered_of l
+gathered_put l few e = put_all l (omega arith) (passes _ e) ∙ sym (gathered_digits l (omega arith) e)
 
 -- ---- Eight at a time
 

@@ -1,14 +1,16 @@
 -- Numbers with the high octet first, once over the width: the loops that read one and lay one out. Assumes nothing.
 use mathlib.Core.Path.{◌≡◌, refl, sym, ap, ap₂, ◌∙◌}
-use mathlib.Core.List.{List, ◌∷◌}
-use Prim.Native.Nat.{ℕ, suc, ◌+◌, ◌*◌, ◌-◌, ◌/◌, ◌%◌, ◌^◌, ◌<◌, ◌≤◌}
-use native.Mathlib.Nat.{pow-suc, pow-le-pow_right, div-div-eq-div-mul, div-one}
+use mathlib.Core.List.{List, [], ◌∷◌}
+use Prim.Native.Nat.{ℕ, zero, suc, ◌+◌, ◌*◌, ◌/◌, ◌%◌, ◌^◌, ◌<◌, ◌≤◌}
+use native.Mathlib.Nat.{pow-suc, pow-le-pow_right, div-one}
 use native.Mathlib.Numerals.{add-one}
 use native.Mathlib.Omega.{arith}
-use lib.ListN.{length, take, drop, get_or, set, length-set, drop_of_length-le}
-use lib.Seq.{take-suc, take-length, drop-cons, drop-set-lt, get_or-set_same, lt-length-set}
+use lib.ListN.{length, take, get_or}
+use lib.Seq.{take-suc, take-length}
+use Rattle.std.specs.Int.{w32, bytes_high_first, from_be_bytes}
+use Rattle.std.proofs.lemmas.Nat.{be_bytes_4}
 use Rattle.meaning.specs.Octets.{Octets, number_of, octets_of}
-use Rattle.meaning.proofs.Numbers.{number_snoc, octets_back}
+use Rattle.meaning.proofs.Numbers.{number_snoc, number_back, octets_back}
 use Rattle.octets.specs.Parts.{part_of, Numbered}
 use Rattle.octets.proofs.Parts.{part_within, part_octets}
 
@@ -52,44 +54,14 @@ part_back l at w r o h e = ap (octets_of w) e ∙ rw (part_within l at w h) at (
 
 -- ---- Laying out
 
--- the last k of `out` are the low octets of n, and `rest` is what stands before them
-pub record Ended (n w : ℕ) (out : List ℕ) (k rest : ℕ) : Type 0 where
-  pub within : k ≤ w
-  pub kept : length out ≡ w
-  pub before : rest ≡ n / 256 ^ k
-  pub behind : drop (w - k) out ≡ octets_of k n
-
-pub ended_none : (n : ℕ) (out : List ℕ) → Ended n (length out) out 0 n
+-- the octets that the library gives, by this crate's word
+pub high_first : (w n : ℕ) → bytes_high_first w n ≡ octets_of w n
 unfolding octets_of
-ended_none n out =
-    record {
-      within = omega arith;
-      kept = refl;
-      before = sym (div-one n);
-      behind = drop_of_length-le out {i = length out - 0} (omega arith);
-    }
+high_first zero n = refl
+high_first (suc zero) n = ap (λ (m : ℕ). (m % 256) ∷ []) (sym (div-one n))
+high_first (suc (suc w)) n = ap (λ (l : List ℕ). (n / 256 ^ suc w % 256) ∷ l) (high_first (suc w) n)
 
-module _ (n w : ℕ) (out : List ℕ) (k rest : ℕ) (u : Ended n w out k rest) where
-  pub ended_more : k < w → Ended n w (set out (w - 1 - k) (rest % 256)) (k + 1) (rest / 256)
-  unfolding octets_of
-  ended_more h =
-      let i : ℕ = w - 1 - k in
-      let i_is : w - (k + 1) ≡ i = omega arith in
-      let next : suc i ≡ w - k = omega arith in
-      let inside : i < length out = omega (arith, u.kept) in
-      let here : get_or (set out i (rest % 256)) i 0 ≡ n / 256 ^ k % 256 =
-      get_or-set_same out i (rest % 256) 0 inside ∙ ap (λ (m : ℕ). m % 256) u.before in
-      let later : drop (suc i) (set out i (rest % 256)) ≡ octets_of k n =
-      drop-set-lt (suc i) out i (rest % 256) (omega arith) ∙ rw next u.behind in
-      record {
-        within = omega arith;
-        kept = length-set out i (rest % 256) ∙ u.kept;
-        before = rw (add-one k, pow-suc) (ap (λ (m : ℕ). m / 256) u.before ∙ div-div-eq-div-mul n (256 ^ k) 256);
-        behind = rw (i_is, add-one k) (drop-cons (set out i (rest % 256)) i 0 (lt-length-set out i (rest % 256) inside) ∙ ap₂ ◌∷◌ here later);
-      }
-
-  pub ended_all : w ≤ k → out ≡ octets_of w n
-  ended_all h =
-      let e : k ≡ w = omega (arith, u.within) in
-      let none : w - w ≡ 0 = omega arith in
-      rw (e, none) at u.behind
+-- What the library reads from four octets is their number.
+pub read_four : (l : List ℕ) (r : ℕ) → length l ≡ 4 → ((i : ℕ) → get_or l i 0 < 256) → r < 4294967296 → r ≡ from_be_bytes w32 l
+    → r ≡ number_of l
+read_four l r e o h q = sym (number_back 4 r h) ∙ ap number_of (sym (high_first 4 r) ∙ be_bytes_4 l r e o q)

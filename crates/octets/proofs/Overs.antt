@@ -284,6 +284,9 @@ module _ (at : ℕ) (s d : List ℕ) (n : ℕ) (fit : Bool) (size : n ≡ length
   pub laid_not : fit ≡ false → Laid at s d false d
   laid_not e = record { says = sym e ∙ fit_is; holds = sym (laid_none at s d (sym fit_is ∙ e)) }
 
+  pub laid_done : fit ≡ true → (out : List ℕ) → out ≡ laid_at at s d → Laid at s d true out
+  laid_done e out q = record { says = sym e ∙ fit_is; holds = q }
+
   -- `put_mid` is how the borrow checker puts a lent part back: what was laid over the start of the part, said of the whole
   pub laid_part : (p : List ℕ) → fit ≡ true → p ≡ over s (take (length d - at) (drop at d))
       → Laid at s d true (put_mid at (length d - at) d p)

@@ -15,10 +15,7 @@ use Rattle.meaning.proofs.Answers.{unless_given, read_exactly}
 use Rattle.meaning.proofs.Sheets.{first_none, when_is_none}
 use borrow.Author.Tests.{ltb-false}
 use lib.Dec.{ltb}
-use Rattle.desk.specs.declared.Reading.{Reading}
-use Rattle.desk.specs.declared.Checking.{Checking}
-use Rattle.desk.specs.declared.Writing.{Writing}
-use Rattle.desk.specs.Answers.{reading_of, checking_of, writing_of}
+use Rattle.desk.specs.Answers.{Reading, Checking, Writing, reading_of, checking_of, writing_of}
 use Rattle.printing.specs.Lent.{ReadWithin, CheckedWithin, WroteWithin}
 
 -- what is laid over the lent part is laid over the whole

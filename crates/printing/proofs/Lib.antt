@@ -3,3 +3,4 @@ pub mod Lending
 pub mod Shown
 pub mod Whole
 pub mod Cases
+pub mod Jobs

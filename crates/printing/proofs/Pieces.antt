@@ -9,16 +9,14 @@ use lib.ListN.{length, take, drop, length-append, length-take}
 use lib.Seq.{take_at, drop-drop, length-take-le, take-append-add, take-append-le, drop-append_seam}
 use Rattle.meaning.specs.Octets.{unpack, text}
 use Rattle.meaning.specs.Answers.{over, Written}
-use Rattle.octets.specs.Parts.{part_of, fits_at, laid_at, Laid}
-use Rattle.octets.specs.DigitStrings.{padded}
+use Rattle.octets.specs.Parts.{fits_at, laid_at, Laid}
 use Rattle.octets.proofs.Overs.{laid_two, laid_first, laid_none, laid_fits, fits_room, over_length}
 use Rattle.octets.proofs.Unpacking.{unpacked_length}
-use Rattle.lines.specs.declared.Text.{Text}
-use Rattle.lines.specs.Lines.{decimal, space, line_feed, entry_digits, entry_with, entries_with, StartLaid, text_of, followed, refusal_line}
+use Rattle.lines.specs.Lines.{decimal, space, line_feed, entry_digits, entry_with, entries_with, StartLaid, followed}
 use Rattle.lines.proofs.Spelling.{decimal_length}
 use Rattle.lines.proofs.Pieces.{then}
 use Rattle.lines.proofs.Listing.{start_laid, start_not_laid, digits_length, entry_length, entries_length, take_least}
-use Rattle.printing.specs.Printed.{not_judged, refusal_told, hex_line, list_line, kind_flags, area_line, open_line, area_octets}
+use Rattle.printing.specs.Printed.{not_judged, hex_line, list_line, kind_flags, area_line, open_line, area_octets}
 
 -- ---- Octets
 
@@ -40,22 +38,8 @@ start_as s t d held said e p = subst (λ (x : List ℕ). StartLaid x d said held
 
 -- ---- Texts
 
-pub text_shown : (t : Text) (l : List ℕ) → t ≡ text_of l → part_of t.octets 0 t.len ≡ l
-unfolding text_of padded part_of over
-text_shown t l e =
-    ap (λ (x : Text). take x.len x.octets) e ∙ take_at l _ (length l) refl
-
-pub put_line : (t : Text) (l d held : List ℕ) (said : ℕ) → t ≡ text_of l → StartLaid (part_of t.octets 0 t.len) d said held
-    → StartLaid l d said held
-put_line t l d held said e p = start_as (part_of t.octets 0 t.len) l d held said (text_shown t l e) p
-
-pub put_told : (all n s told : ℕ) (t : Text) (d held : List ℕ) (said : ℕ) → t ≡ text_of (refusal_line n told)
-    → refusal_line n told ≡ refusal_told all n s → StartLaid (part_of t.octets 0 t.len) d said held
-    → StartLaid (refusal_told all n s) d said held
-put_told all n s told t d held said e r p = put_line t (refusal_told all n s) d held said (e ∙ ap text_of r) p
-
-pub kind_flags_pieces : (k f : ℕ) {none a b c r : Text} → none ≡ text_of [] → a ≡ followed none (decimal k) → b ≡ followed a (space ∷ [])
-    → c ≡ followed b (decimal f) → r ≡ followed c (space ∷ []) → r ≡ text_of (kind_flags k f)
+pub kind_flags_pieces : (k f : ℕ) {none a b c r : List ℕ} → none ≡ [] → a ≡ followed none (decimal k) → b ≡ followed a (space ∷ [])
+    → c ≡ followed b (decimal f) → r ≡ followed c (space ∷ []) → r ≡ kind_flags k f
 unfolding kind_flags
 kind_flags_pieces k f p q u v w =
     let k1 : List ℕ = decimal k ++ (space ∷ []) in
@@ -66,7 +50,7 @@ kind_flags_pieces k f p q u v w =
     let b' = then (decimal k) (space ∷ []) a' u (omega (arith, decimal_length k)) in
     let c' = then k1 (decimal f) b' v (omega (arith, decimal_length f)) in
     let r' = then k2 (space ∷ []) c' w (omega arith) in
-    r' ∙ ap text_of (append_assoc k1 (decimal f) (space ∷ []) ∙ append_assoc (decimal k) (space ∷ []) (decimal f ++ (space ∷ [])))
+    r' ∙ append_assoc k1 (decimal f) (space ∷ []) ∙ append_assoc (decimal k) (space ∷ []) (decimal f ++ (space ∷ []))
 
 pub kind_flags_length : (k f : ℕ) → length (kind_flags k f) ≤ 42
 unfolding kind_flags
@@ -74,8 +58,8 @@ kind_flags_length k f =
     let rest : List ℕ = decimal f ++ (space ∷ []) in
     omega (arith, length-append (decimal k) ((space ∷ []) ++ rest), length-append (space ∷ []) rest, length-append (decimal f) (space ∷ []), decimal_length k, decimal_length f)
 
-pub open_pieces : (n : ℕ) {none a b r : Text} → none ≡ text_of [] → a ≡ followed none (111 ∷ 118 ∷ 101 ∷ 114 ∷ 32 ∷ [])
-    → b ≡ followed a (decimal n) → r ≡ followed b not_judged → r ≡ text_of (open_line n)
+pub open_pieces : (n : ℕ) {none a b r : List ℕ} → none ≡ [] → a ≡ followed none (111 ∷ 118 ∷ 101 ∷ 114 ∷ 32 ∷ [])
+    → b ≡ followed a (decimal n) → r ≡ followed b not_judged → r ≡ open_line n
 unfolding open_line
 open_pieces n p q u v =
     let front : List ℕ = 111 ∷ 118 ∷ 101 ∷ 114 ∷ 32 ∷ [] in
@@ -84,7 +68,7 @@ open_pieces n p q u v =
     let a' = then [] front p q (omega arith) in
     let b' = then front (decimal n) a' u (omega (arith, decimal_length n)) in
     let r' = then both not_judged b' v (omega arith) in
-    r' ∙ ap text_of (append_assoc front (decimal n) not_judged)
+    r' ∙ append_assoc front (decimal n) not_judged
 
 -- ---- Hexadecimal
 
@@ -125,18 +109,17 @@ module _ (k f : ℕ) (area d : List ℕ) where
   pub area_not : length d < length (kind_flags k f) + (2 * length area + 1) → StartLaid (area_line w) d 0 d
   area_not h = start_not_laid (area_line w) d (omega (arith, area_length_lem))
 
-  pub area_there : (t : Text) (held out : List ℕ) (said n : ℕ) → t ≡ text_of (kind_flags k f) → n ≡ t.len + (2 * length area + 1)
-      → n ≤ length d → StartLaid (part_of t.octets 0 t.len) d said held → out ≡ laid_at t.len (hex_line area) held → StartLaid (area_line w) d n out
-  unfolding area_line text_of
-  area_there t held out said n e n_is h p o =
-      let front : List ℕ = kind_flags k f in
-      let len : t.len ≡ length front = ap (λ (x : Text). x.len) e in
-      let at : t.len ≡ 0 + length front = omega (arith, len) in
-      let first : held ≡ laid_at 0 front d = p.holds ∙ ap (λ (l : List ℕ). laid_at 0 l d) (text_shown t front e) in
-      let size : length (area_line w) ≡ n = area_length_lem ∙ omega (arith, len) in
+  pub area_there : (front held out : List ℕ) (said at n : ℕ) → front ≡ kind_flags k f → at ≡ length front → n ≡ at + (2 * length area + 1)
+      → n ≤ length d → StartLaid front d said held → out ≡ laid_at at (hex_line area) held → StartLaid (area_line w) d n out
+  unfolding area_line
+  area_there front held out said at n e at_is n_is h p o =
+      let size : length (area_line w) ≡ n = area_length_lem ∙ omega (arith, ap length e) in
+      let behind : at ≡ 0 + length front = omega arith in
       start_laid (area_line w) d out n size h
-      (o ∙ ap (λ (x : List ℕ). laid_at t.len (hex_line area) x) first ∙ ap (λ (m : ℕ). laid_at m (hex_line area) (laid_at 0 front d)) at
-      ∙ laid_two 0 (length front) front (hex_line area) d refl (omega (arith, hex_length area, len))
+      (o ∙ ap (λ (x : List ℕ). laid_at at (hex_line area) x) p.holds
+      ∙ ap (λ (m : ℕ). laid_at m (hex_line area) (laid_at 0 front d)) behind
+      ∙ laid_two 0 (length front) front (hex_line area) d refl (omega (arith, hex_length area))
+      ∙ ap (λ (x : List ℕ). laid_at 0 (x ++ hex_line area) d) e
       ∙ laid_first (area_line w) d (omega arith))
 
   pub octets_not : length d < 2 + length area → StartLaid (area_octets w) d 0 d

@@ -2,10 +2,7 @@
 use Rattle.std.specs.Prelude.{◌≡◌, ℕ, min, cond, List, eqb, ltb, length}
 use Rattle.meaning.specs.Jobs.{Context}
 use Rattle.meaning.specs.Answers.{after, Promise, read_answer, check_answer, write_answer, area_answer}
-use Rattle.desk.specs.declared.Reading.{Reading}
-use Rattle.desk.specs.declared.Checking.{Checking}
-use Rattle.desk.specs.declared.Writing.{Writing}
-use Rattle.desk.specs.Answers.{reading_of, checking_of, writing_of}
+use Rattle.desk.specs.Answers.{Reading, Checking, Writing, reading_of, checking_of, writing_of}
 use Rattle.printing.specs.Printed.{is_short, read_of, check_of, job_read, job_check, job_write, record_line}
 use Rattle.lines.specs.Lines.{StartLaid}
 

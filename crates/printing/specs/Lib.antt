@@ -1,2 +1,3 @@
 pub mod Printed
 pub mod Lent
+pub mod Jobs

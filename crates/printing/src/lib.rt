@@ -5,24 +5,45 @@
 
 ghost use Rattle.std.specs.Prelude.{◌≡◌, ◌+◌, ◌*◌, ◌≤◌, min, length, take};
 ghost use Rattle.meaning.specs.Jobs.{comes};
-ghost use Rattle.octets.specs.Parts.{part_of, laid_at};
-ghost use Rattle.lines.specs.Lines.{StartLaid, text_of};
+ghost use Rattle.octets.specs.Parts.{laid_at};
+ghost use Rattle.lines.specs.Lines.{StartLaid};
 ghost use Rattle.printing.specs.Printed.{refusal_told, hex_line, list_line, kind_flags, area_line, open_line, start_shown};
 ghost use Rattle.printing.specs.Printed.{read_shown, check_shown, write_shown, read_printed, check_printed, write_printed};
 ghost use Rattle.printing.specs.Printed.{is_job, area_octets};
+ghost use Rattle.printing.specs.Jobs.{job_of};
 ghost use Rattle.writing.specs.Starts.{start_refusal};
 ghost use Rattle.printing.specs.Lent.{ReadWithin, CheckedWithin, WroteWithin, sheet_after, list_after, area_after, Answered};
 
-use desk::{Checking, Reading, Refusal, Writing};
+use desk::{Refusal, Written};
 use lines::Text;
-use writing::Start;
 
-// The octet that a record of each job begins with.
-pub const READ: u8 = b'R';
+// The job of a record.
+#[derive(Clone, Copy, PartialEq, Eq)]
+pub enum Job {
+    Read,
+    Check,
+    Write,
+}
 
-pub const CHECK: u8 = b'C';
+// An octet with which no record begins.
+#[derive(Clone, Copy, PartialEq, Eq)]
+pub struct NoJob;
 
-pub const WRITE: u8 = b'W';
+// The job of a record that begins with an octet.
+impl TryFrom<u8> for Job {
+    type Error = NoJob;
+
+    ghost try_from_gives = { λ octet r. r ≡ job_of octet };
+
+    fn try_from(octet: u8) -> Result<Job, NoJob> {
+        match octet {
+            b'R' => Ok(Job::Read),
+            b'C' => Ok(Job::Check),
+            b'W' => Ok(Job::Write),
+            _ => Err(NoJob),
+        }
+    }
+}
 
 // The octets of an area's input that decide every answer: kind, flags, and one octet more than the longest area.
 pub const DECISIVE: usize = 3 + desk::LONGEST_AREA;
@@ -43,11 +64,10 @@ fn put(s: &[u8], out: &mut [u8]) -> usize
 }
 
 // The same of a text.
-fn put_text(text: Text, out: &mut [u8]) -> usize
-    ensures { StartLaid (part_of text.octets 0 text.len) out.old result out.new }
+fn put_text(text: &Text, out: &mut [u8]) -> usize
+    ensures { StartLaid text.now out.old result out.new }
 {
-    let held = text.octets;
-    put(octets::part(&held, 0, text.len), out)
+    put(text.as_slice(), out)
 }
 
 // The line of a refusal of an input that has `all` octets.
@@ -55,7 +75,7 @@ fn put_refusal(refusal: Refusal, all: usize, out: &mut [u8]) -> usize
     ensures { StartLaid (refusal_told all refusal.number refusal.second) out.old result out.new }
 {
     let second = lines::second_told(refusal.number, refusal.second as u64, all as u64);
-    put_text(lines::refusal(refusal.number, second), out)
+    put_text(&lines::refusal(refusal.number, second), out)
 }
 
 // Lays octets in hexadecimal from a place on, to the line's end.
@@ -84,7 +104,7 @@ fn put_hex(s: &[u8], out: &mut [u8]) -> usize
 fn put_list(list: &[u32], count: usize, out: &mut [u8]) -> usize
     ensures { StartLaid (list_line (take count list.now)) out.old result out.new }
 {
-    if octets::least(count, list.len()) == 0 {
+    if count.min(list.len()) == 0 {
         return put(b"\n", out);
     }
     let n = lines::entries(list, count, b' ', out);
@@ -97,10 +117,13 @@ fn put_list(list: &[u32], count: usize, out: &mut [u8]) -> usize
 
 // Kind and flags in decimal, with a space behind each.
 fn kind_flags(kind: u8, flags: u8) -> Text
-    ensures { result ≡ text_of (kind_flags kind flags) }
+    ensures { result ≡ kind_flags kind flags }
 {
-    let first = lines::with(lines::with_decimal(lines::nothing(), kind as u64), b" ");
-    lines::with(lines::with_decimal(first, flags as u64), b" ")
+    Text::new()
+        .with_decimal(kind as u64)
+        .with(b" ")
+        .with_decimal(flags as u64)
+        .with(b" ")
 }
 
 // The line of an area, with the kind and flags that stand in its sheet.
@@ -112,45 +135,60 @@ fn put_area(kind: u8, flags: u8, area: &[u8], out: &mut [u8]) -> usize
         return 0;
     }
     let front = kind_flags(kind, flags);
-    let n = front.len + (2 * area.len() + 1);
+    let at = front.as_slice().len();
+    let n = at + (2 * area.len() + 1);
     if out.len() < n {
         return 0;
     }
-    put_text(front, out);
-    lay_hex(area, out, front.len);
+    put_text(&front, out);
+    lay_hex(area, out, at);
     n
 }
 
 // The line of a sheet that was not judged, since its kept octets do not decide.
 fn open_line(kept: usize) -> Text
-    ensures { result ≡ text_of (open_line kept) }
+    ensures { result ≡ open_line kept }
 {
-    let over = lines::with_decimal(lines::with(lines::nothing(), b"over "), kept as u64);
-    lines::with(over, b" octets, not judged\n")
+    Text::new()
+        .with(b"over ")
+        .with_decimal(kept as u64)
+        .with(b" octets, not judged\n")
 }
 
 // ---- Jobs with so much room of a lent buffer
 
-fn read_within(area: &[u8], kind: u32, flags: u32, room: usize, sheet: &mut [u8]) -> Reading
+fn read_within(
+    area: &[u8],
+    kind: u32,
+    flags: u32,
+    room: usize,
+    sheet: &mut [u8],
+) -> Result<usize, Refusal>
     ensures { ReadWithin kind flags (min room (length sheet.old)) area.now sheet.old result
         sheet.new }
 {
-    let open = octets::least(room, sheet.len());
+    let open = room.min(sheet.len());
     desk::read(area, kind, flags, &mut sheet[..open])
 }
 
-fn check_within(area: &[u8], kind: u32, flags: u32, room: usize, list: &mut [u32]) -> Checking
+fn check_within(
+    area: &[u8],
+    kind: u32,
+    flags: u32,
+    room: usize,
+    list: &mut [u32],
+) -> Result<usize, Refusal>
     ensures { CheckedWithin (comes kind flags) (min room (length list.old)) area.now list.old result
         list.new }
 {
-    let open = octets::least(room, list.len());
+    let open = room.min(list.len());
     desk::check(area, kind, flags, &mut list[..open])
 }
 
-fn write_within(sheet: &[u8], room: usize, area: &mut [u8]) -> Writing
+fn write_within(sheet: &[u8], room: usize, area: &mut [u8]) -> Result<Written, Refusal>
     ensures { WroteWithin (min room (length area.old)) sheet.now area.old result area.new }
 {
-    let open = octets::least(room, area.len());
+    let open = room.min(area.len());
     desk::write(sheet, &mut area[..open])
 }
 
@@ -165,11 +203,11 @@ fn read_line(given: &[u8], all: usize, room: usize, sheet: &mut [u8], out: &mut 
     if given.len() < 2 {
         return put(b"short\n", out);
     }
-    let kind = octets::wide32(given[0]);
-    let flags = octets::wide32(given[1]);
+    let kind = u32::from(given[0]);
+    let flags = u32::from(given[1]);
     match read_within(&given[2..], kind, flags, room, sheet) {
-        Reading::Sheet(n) => put_hex(octets::part(sheet, 0, n), out),
-        Reading::Refused(refusal) => put_refusal(refusal, all, out),
+        Ok(n) => put_hex(octets::part(sheet, 0, n), out),
+        Err(refusal) => put_refusal(refusal, all, out),
     }
 }
 
@@ -182,25 +220,21 @@ fn check_line(given: &[u8], all: usize, room: usize, list: &mut [u32], out: &mut
     if given.len() < 2 {
         return put(b"short\n", out);
     }
-    let kind = octets::wide32(given[0]);
-    let flags = octets::wide32(given[1]);
+    let kind = u32::from(given[0]);
+    let flags = u32::from(given[1]);
     match check_within(&given[2..], kind, flags, room, list) {
-        Checking::List(n) => put_list(list, n, out),
-        Checking::Refused(refusal) => put_refusal(refusal, all, out),
+        Ok(n) => put_list(list, n, out),
+        Err(refusal) => put_refusal(refusal, all, out),
     }
 }
 
 // What is printed of a longer sheet: the line of the refusal that its kept octets decide, or what is said where they decide none.
-fn put_start(kept: &[u8], pending: Text, out: &mut [u8]) -> usize
-    ensures { StartLaid (start_shown (part_of pending.octets 0 pending.len) (start_refusal kept.now))
-        out.old result out.new }
+fn put_start(kept: &[u8], pending: &Text, out: &mut [u8]) -> usize
+    ensures { StartLaid (start_shown pending.now (start_refusal kept.now)) out.old result out.new }
 {
     match writing::judge_start(kept) {
-        Start::Open => put_text(pending, out),
-        Start::Refused(refusal) => put_text(
-            lines::refusal(refusal.number, refusal.second as u64),
-            out,
-        ),
+        None => put_text(pending, out),
+        Some(refusal) => put_text(&lines::refusal(refusal.number, refusal.second as u64), out),
     }
 }
 
@@ -211,15 +245,14 @@ fn write_line(sheet: &[u8], all: usize, room: usize, area: &mut [u8], out: &mut 
     ensures area_after { area.new ≡ area_after sheet.now all (min room (length area.old)) area.old }
 {
     if sheet.len() < all {
-        return put_start(sheet, open_line(sheet.len()), out);
+        return put_start(sheet, &open_line(sheet.len()), out);
     }
     match write_within(sheet, room, area) {
-        Writing::Area {
-            length,
-            kind,
-            flags,
-        } => put_area(kind, flags, octets::part(area, 0, length), out),
-        Writing::Refused(refusal) => put_refusal(refusal, all, out),
+        Ok(written) => {
+            let made = octets::part(area, 0, written.length);
+            put_area(written.kind, written.flags, made, out)
+        }
+        Err(refusal) => put_refusal(refusal, all, out),
     }
 }
 
@@ -227,7 +260,7 @@ fn write_line(sheet: &[u8], all: usize, room: usize, area: &mut [u8], out: &mut 
 pub fn is_job(job: u8) -> bool
     ensures { result ≡ is_job job }
 {
-    (job == READ) | ((job == CHECK) | (job == WRITE))
+    Job::try_from(job).is_ok()
 }
 
 // The line of a record: its job, its payload or the start of it that is kept, the octets of the whole payload, and its room. `octets` and
@@ -244,16 +277,12 @@ pub fn record(
     ensures { Answered job payload.now all room octets.old entries.old out.old result
         out.new octets.new entries.new }
 {
-    if job == READ {
-        return read_line(payload, all, room, octets, out);
+    match Job::try_from(job) {
+        Ok(Job::Read) => read_line(payload, all, room, octets, out),
+        Ok(Job::Check) => check_line(payload, all, room, entries, out),
+        Ok(Job::Write) => write_line(payload, all, room, octets, out),
+        Err(NoJob) => 0,
     }
-    if job == CHECK {
-        return check_line(payload, all, room, entries, out);
-    }
-    if job == WRITE {
-        return write_line(payload, all, room, octets, out);
-    }
-    0
 }
 
 // ---- The programs
@@ -265,11 +294,11 @@ pub fn read(given: &[u8], all: usize, out: &mut [u8]) -> usize
     if given.len() < 2 {
         return put(b"short\n", out);
     }
-    let kind = octets::wide32(given[0]);
-    let flags = octets::wide32(given[1]);
+    let kind = u32::from(given[0]);
+    let flags = u32::from(given[1]);
     match desk::read(&given[2..], kind, flags, out) {
-        Reading::Sheet(n) => n,
-        Reading::Refused(refusal) => put_refusal(refusal, all, out),
+        Ok(n) => n,
+        Err(refusal) => put_refusal(refusal, all, out),
     }
 }
 
@@ -280,12 +309,12 @@ pub fn check(given: &[u8], all: usize, out: &mut [u8]) -> usize
     if given.len() < 2 {
         return put(b"short\n", out);
     }
-    let kind = octets::wide32(given[0]);
-    let flags = octets::wide32(given[1]);
+    let kind = u32::from(given[0]);
+    let flags = u32::from(given[1]);
     let mut list = [0u32; desk::LONGEST_LIST];
     match desk::check(&given[2..], kind, flags, &mut list) {
-        Checking::List(n) => lines::entries(&list, n, b'\n', out),
-        Checking::Refused(refusal) => put_refusal(refusal, all, out),
+        Ok(n) => lines::entries(&list, n, b'\n', out),
+        Err(refusal) => put_refusal(refusal, all, out),
     }
 }
 
@@ -310,15 +339,14 @@ pub fn write(sheet: &[u8], all: usize, out: &mut [u8]) -> usize
     ensures { StartLaid (write_printed sheet.now all 4076) out.old result out.new }
 {
     if sheet.len() < all {
-        return put_start(sheet, lines::nothing(), out);
+        return put_start(sheet, &Text::new(), out);
     }
     let mut area = [0u8; desk::LONGEST_AREA];
     match desk::write(sheet, &mut area) {
-        Writing::Area {
-            length,
-            kind,
-            flags,
-        } => put_octets(kind, flags, octets::part(&area, 0, length), out),
-        Writing::Refused(refusal) => put_refusal(refusal, all, out),
+        Ok(written) => {
+            let made = octets::part(&area, 0, written.length);
+            put_octets(written.kind, written.flags, made, out)
+        }
+        Err(refusal) => put_refusal(refusal, all, out),
     }
 }

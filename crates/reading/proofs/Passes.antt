@@ -28,7 +28,7 @@ use Rattle.shape.proofs.Formed.{formed_as}
 use Rattle.shape.proofs.Items.{item_there}
 use Rattle.shape.proofs.Stored.{item_as_meant}
 use Rattle.reading.proofs.Laying.{cut_of, cut_part}
-use Rattle.reading.specs.declared.Tally.TheVariants.{Whole, Broken}
+use Rattle.std.specs.Prelude.{Ok, Err}
 use Rattle.reading.specs.Items.{names_of, item_in, Within, LaidCounted, area_items, PassSays}
 
 -- The loop stands at a place and has gone over the attributes before it, whose items are so many octets and stand at the start of the
@@ -166,7 +166,7 @@ module _ (l : List ℕ) (place n : ℕ) (p : Part) (behind : ℕ) (g : Attribute
 -- The loop is left.
 module _ (l d out : List ℕ) (place count written : ℕ) (k : Passing l d out place count written) where
   -- none is left
-  pub passing_done : walk_at l place ≡ end → PassSays l (Whole count written) out
+  pub passing_done : walk_at l place ≡ end → PassSays l (Ok (record { count = count; written = written })) out
   unfolding PassSays items_of attributes fault
   passing_done h =
       let all : area_items l ≡ k.gone = k.whole ∙ ap (λ (w : Walk). k.gone ++ items_of current (attributes w)) h ∙ append-nil k.gone in
@@ -179,6 +179,6 @@ module _ (l d out : List ℕ) (place count written : ℕ) (k : Passing l d out p
       }
 
   -- a refusal
-  pub passing_broken : (refused : Refusal) → walk_at l place ≡ broken refused.number refused.second → PassSays l (Broken refused) out
+  pub passing_broken : (refused : Refusal) → walk_at l place ≡ broken refused.number refused.second → PassSays l (Err refused) out
   unfolding PassSays fault
   passing_broken refused h = k.passed.same_fault ∙ ap fault h

@@ -1,7 +1,7 @@
 -- The whole sheet: its head and its items one behind the other, and what reading answers. Assumes nothing.
 use mathlib.Core.Path.{◌≡◌, refl, sym, ap, subst, ◌∙◌}
 use mathlib.Core.List.{List, ◌++◌}
-use Prim.Native.Nat.{ℕ, ◌+◌, ◌≤◌, ◌<◌}
+use Prim.Native.Nat.{ℕ, ◌+◌, ◌*◌, ◌≤◌, ◌<◌}
 use native.Mathlib.Omega.{arith}
 use lib.ListN.{length, take, length-append}
 use lib.Seq.{length-take-le}
@@ -18,15 +18,12 @@ use Rattle.octets.specs.Handing.{handing, Handed}
 use Rattle.octets.proofs.Overs.{laid_first, laid_behind}
 use Rattle.octets.proofs.Handing.{handed_not, handed_over}
 use Rattle.area.specs.declared.Refusal.{Refusal}
-use Rattle.area.specs.declared.Arrival.TheVariants.{Fit}
+use Rattle.std.specs.Prelude.{Result, Ok, Err}
 use Rattle.area.specs.Answers.{in_book, arrival_of}
 use Rattle.area.proofs.Arriving.{fit_arrived}
-use Rattle.reading.specs.declared.Reading.{Reading}
-use Rattle.reading.specs.declared.Reading.TheVariants.{Sheet, Refused}
 use Rattle.reading.specs.declared.Tally.{Tally}
-use Rattle.reading.specs.declared.Tally.TheVariants.{Whole, Broken}
-use Rattle.reading.specs.Items.{longest_items, area_items, ItemsLaid, PassSays, Concluding}
-use Rattle.reading.specs.Answers.{reading_of, Read}
+use Rattle.reading.specs.Items.{longest_items, area_items, ItemsLaid, PassSays}
+use Rattle.reading.specs.Answers.{Reading, reading_of, Read}
 
 -- a sheet is its head and its items
 sheet_parts : (kind flags count : ℕ) (area : List ℕ) → count ≡ length (attributes (walk area))
@@ -40,7 +37,7 @@ head_long kind flags count = refl
 
 -- The first that applies is a refusal, which leaves the buffer as it was.
 pub refused_read : (kind flags : ℕ) (area : List ℕ) (x : Refusal) (d : List ℕ) → area_refusal kind flags area ≡ in_book x
-    → Read kind flags area d (Refused x) d
+    → Read kind flags area d (Err x) d
 unfolding read_answer area_order after
 refused_read kind flags area x d e = record { says = rw e; holds = rw e }
 
@@ -58,7 +55,7 @@ module _ (kind flags count : ℕ) (items d : List ℕ) where
   -- the head over the buffer's start, the items right behind it
   pub both_laid : (head headed held : List ℕ) → head ≡ sheet_head current kind flags count → 9 + length items ≤ length d
       → headed ≡ laid_at 0 head d → held ≡ laid_at 9 items headed
-      → Handed reading_of 9 (sheet_head current kind flags count ++ items) d (Sheet (9 + length items)) held
+      → Handed reading_of 9 (sheet_head current kind flags count ++ items) d (Ok (9 + length items)) held
   both_laid head headed held is room first behind =
       let nine : length head ≡ 9 = ap length is ∙ head_long kind flags count in
       let all : held ≡ over (head ++ items) d =
@@ -68,47 +65,53 @@ module _ (kind flags count : ℕ) (items d : List ℕ) where
 -- ---- The pass
 
 -- an area that arrived has at most 4,076 octets
-pub arrived_short : (kind flags : ℕ) (area : List ℕ) → arrival_of kind flags (length area) ≡ Fit → length area ≤ 4076
+pub arrived_short : (kind flags : ℕ) (area : List ℕ) → arrival_of kind flags (length area) ≡ Ok tt → length area ≤ 4076
 arrived_short kind flags area fit = (fit_arrived kind flags area (arrival_of kind flags (length area)) refl fit).short
 
 -- Nothing of 1 to 3 applies.
-module _ (kind flags : ℕ) (area : List ℕ) (r : Tally) (made : List ℕ) (k : Concluding kind flags area r made) where
-  left : area_refusal kind flags area ≡ fault (walk area)
-  left = (fit_arrived kind flags area (arrival_of kind flags (length area)) refl k.fit).left
+module _
+    (kind flags : ℕ) (area : List ℕ) (fit : arrival_of kind flags (length area) ≡ Ok tt)
+    (r : Result Tally Refusal) (made : List ℕ) (room : 2 * length area ≤ length made) (says : PassSays area r made)
+  where
+    left : area_refusal kind flags area ≡ fault (walk area)
+    left = (fit_arrived kind flags area (arrival_of kind flags (length area)) refl fit).left
 
-  -- the first of 4 to 8
-  pub framing_refused : (x : Refusal) (d : List ℕ) → r ≡ Broken x → Read kind flags area d (Refused x) d
-  unfolding PassSays
-  framing_refused x d q = refused_read kind flags area x d (left ∙ subst (λ (t : Tally). PassSays area t made) q k.says)
-
-  -- none of them: the items are laid
-  module _ (count written : ℕ) (q : r ≡ Whole count written) where
-    laid : ItemsLaid area count written made
+    -- the first of 4 to 8
+    pub framing_refused : (x : Refusal) (d : List ℕ) → r ≡ Err x → Read kind flags area d (Err x) d
     unfolding PassSays
-    laid = subst (λ (t : Tally). PassSays area t made) q k.says
+    framing_refused x d q = refused_read kind flags area x d (left ∙ subst (λ (t : Result Tally Refusal). PassSays area t made) q says)
 
-    -- they stand in the buffer
-    pub items_long : length (take written made) ≡ written
-    items_long = length-take-le written made (omega (arith, laid.few, k.room))
+    -- none of them: the items are laid
+    module _ (t : Tally) (q : r ≡ Ok t) where
+      laid : ItemsLaid area t.count t.written made
+      unfolding PassSays
+      laid = subst (λ (t : Result Tally Refusal). PassSays area t made) q says
 
-    accepted : area_refusal kind flags area ≡ none
-    accepted = left ∙ laid.sound
+      -- they stand in the buffer
+      pub items_within : t.written ≤ length made
+      items_within = omega (arith, laid.few, room)
 
-    sheet_is : sheet_head current kind flags count ++ take written made ≡ sheet_of kind flags area
-    sheet_is = ap (λ (l : List ℕ). sheet_head current kind flags count ++ l) laid.holds ∙ sym (sheet_parts kind flags count area laid.counts)
+      pub items_long : length (take t.written made) ≡ t.written
+      items_long = length-take-le t.written made items_within
 
-    -- what handing over asks for
-    pub bounded : Octets area → (kind < 256) × (flags < 256) × (count < 65536) × (length (take written made) ≤ longest_items)
-    bounded o =
-        let c = clear kind flags area accepted in
-        let fit = items_fit kind flags area (record { octets = o; accepted = accepted }) in
-        (kind_octet kind c.kind_ok, flags_octet flags c.flags_ok, omega (arith, fit, laid.counts), omega (arith, laid.few, c.short, ap length laid.holds, laid.long))
+      accepted : area_refusal kind flags area ≡ none
+      accepted = left ∙ laid.sound
 
-    -- what is handed over is what reading answers
-    pub handed_read : (items d : List ℕ) (said : Reading) (held : List ℕ) → items ≡ take written made
-        → Handed reading_of 9 (sheet_head current kind flags count ++ items) d said held → Read kind flags area d said held
-    unfolding read_answer area_order handing
-    handed_read items d said held e h =
-        let same : sheet_head current kind flags count ++ items ≡ sheet_of kind flags area = rw e sheet_is in
-        let answer : handing 9 (sheet_of kind flags area) (length d) ≡ read_answer kind flags area (length d) = rw accepted in
-        subst (λ (a : Answer (List ℕ)). Promise (reading_of a) a d said held) answer (rw same at h)
+      sheet_is : sheet_head current kind flags t.count ++ take t.written made ≡ sheet_of kind flags area
+      sheet_is = ap (λ (l : List ℕ). sheet_head current kind flags t.count ++ l) laid.holds ∙ sym (sheet_parts kind flags t.count area laid.counts)
+
+      -- what handing over asks for
+      pub bounded : Octets area → (kind < 256) × (flags < 256) × (t.count < 65536) × (length (take t.written made) ≤ longest_items)
+      bounded o =
+          let c = clear kind flags area accepted in
+          let fit = items_fit kind flags area (record { octets = o; accepted = accepted }) in
+          (kind_octet kind c.kind_ok, flags_octet flags c.flags_ok, omega (arith, fit, laid.counts), omega (arith, laid.few, c.short, ap length laid.holds, laid.long))
+
+      -- what is handed over is what reading answers
+      pub handed_read : (items d : List ℕ) (said : Reading) (held : List ℕ) → items ≡ take t.written made
+          → Handed reading_of 9 (sheet_head current kind flags t.count ++ items) d said held → Read kind flags area d said held
+      unfolding read_answer area_order handing
+      handed_read items d said held e h =
+          let same : sheet_head current kind flags t.count ++ items ≡ sheet_of kind flags area = rw e sheet_is in
+          let answer : handing 9 (sheet_of kind flags area) (length d) ≡ read_answer kind flags area (length d) = rw accepted in
+          subst (λ (a : Answer (List ℕ)). Promise (reading_of a) a d said held) answer (rw same at h)

@@ -1,18 +1,17 @@
 -- The book, "The sheet": the octets of an item, of the items and of the sheet's head, as the writers lay them. Assumes nothing.
-use Rattle.std.specs.Prelude.{ℕ, ◌+◌, ◌*◌, ◌≤◌, ◌≡◌, List, [], ◌∷◌, ◌++◌, length, take}
+use Rattle.std.specs.Prelude.{ℕ, ◌+◌, ◌*◌, ◌≤◌, ◌≡◌, List, [], ◌∷◌, ◌++◌, length, take, Result, Ok, Err}
 use Rattle.meaning.specs.Versions.{current}
 use Rattle.meaning.specs.Framing.{walk, attributes}
 use Rattle.meaning.specs.Refusals.{none, fault}
 use Rattle.meaning.specs.Sheet.{type_of, sub_of, items_of}
 use Rattle.octets.specs.Parts.{Begun}
 use Rattle.area.specs.declared.Part.{Part}
-use Rattle.area.specs.declared.Arrival.TheVariants.{Fit}
-use Rattle.area.specs.Answers.{in_book, arrival_of}
+use Rattle.area.specs.declared.Refusal.{Refusal}
+use Rattle.area.specs.Answers.{in_book}
 use Rattle.shape.specs.declared.Item.{Item}
 use Rattle.shape.specs.declared.Value.TheVariants.{Plain}
 use Rattle.shape.specs.Items.{stored_in}
 use Rattle.reading.specs.declared.Tally.{Tally}
-use Rattle.reading.specs.declared.Tally.TheVariants.{Whole, Broken}
 
 -- "never longer than 9 + 2" times the area's length: the octets that the items of an area can have
 abbrev pub longest_items : ℕ
@@ -50,12 +49,6 @@ pub record ItemsLaid (area : List ℕ) (count written : ℕ) (held : List ℕ) :
   pub holds : take written held ≡ area_items area
 
 -- the same of any area
-unfoldable pub PassSays : (area : List ℕ) → Tally → (held : List ℕ) → Type 0
-PassSays area (Whole count written) held = ItemsLaid area count written held
-PassSays area (Broken r) held = fault (walk area) ≡ in_book r
-
--- a pass over an area that comes with a fit kind, flags and length, and a buffer with room for the items of any so long
-pub record Concluding (kind flags : ℕ) (area : List ℕ) (tally : Tally) (made : List ℕ) : Type 0 where
-  pub fit : arrival_of kind flags (length area) ≡ Fit
-  pub says : PassSays area tally made
-  pub room : 2 * length area ≤ length made
+unfoldable pub PassSays : (area : List ℕ) → Result Tally Refusal → (held : List ℕ) → Type 0
+PassSays area (Ok t) held = ItemsLaid area t.count t.written held
+PassSays area (Err r) held = fault (walk area) ≡ in_book r

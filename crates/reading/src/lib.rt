@@ -2,7 +2,7 @@
 // buffer, from which they are copied.
 #![tactic(auto)]
 
-ghost use Rattle.std.specs.Prelude.{◌≡◌, cond, List, [], ◌∷◌, ◌++◌, ℕ, ◌+◌, ◌-◌, ◌*◌, ◌%◌, ◌≤◌, ◌<◌, eqb, length, take, drop, get_or};
+ghost use Rattle.std.specs.Prelude.{◌≡◌, cond, List, [], ◌∷◌, ◌++◌, ℕ, ◌+◌, ◌-◌, ◌*◌, ◌%◌, ◌≤◌, ◌<◌, eqb, length, take, drop, get_or, Ok};
 ghost use Rattle.meaning.specs.Versions.{current};
 ghost use Rattle.meaning.specs.Octets.{octets_of, pack, packed_length, digit_value};
 ghost use Rattle.meaning.specs.Sheet.{sheet_head};
@@ -10,10 +10,11 @@ ghost use Rattle.octets.specs.Parts.{laid_at, Begun};
 ghost use Rattle.octets.specs.Handing.{Handed};
 ghost use Rattle.octets.specs.DigitStrings.{halves};
 ghost use Rattle.shape.specs.Items.{stored_part, stored_in};
-ghost use Rattle.reading.specs.Items.{longest_items, names_of, item_in, Within, LaidCounted, PassSays, Concluding};
+ghost use Rattle.reading.specs.Items.{longest_items, names_of, item_in, Within, LaidCounted, PassSays};
+ghost use Rattle.area.specs.Answers.{arrival_of};
 ghost use Rattle.reading.specs.Answers.{reading_of, Read};
 
-use area::{Arrival, Refusal, Step};
+use area::Refusal;
 use shape::{Item, Value};
 
 // "never longer than 9 + 2" times the area's length: room for the items of any area, of up to 4,076 octets, and for sixteen octets more.
@@ -24,26 +25,19 @@ const SHORT_AREA: usize = 384;
 
 const SHORT_ROOM: usize = 784;
 
-// What reading answers: the octets of the sheet that stands at the buffer's start, or a refusal.
+// What a pass over an area has laid: how many items, and how many octets these are.
 #[derive(Clone, Copy)]
-pub enum Reading {
-    Sheet(usize),
-    Refused(Refusal),
-}
-
-// What a pass over an area gives: how many items it has and how many octets these are, or the first refusal of the framing.
-#[derive(Clone, Copy)]
-enum Tally {
-    Whole { count: usize, written: usize },
-    Broken(Refusal),
+struct Tally {
+    count: usize,
+    written: usize,
 }
 
 // The release octet of a QoS profile: its two digits as a number.
 fn release_of(text: &[u8]) -> u8
     ensures { result ≡ (digit_value (get_or text.now 0 0) * 10 + digit_value (get_or text.now 1 0)) % 256 }
 {
-    let tens = octets::wide(octets::digit_value(octets::octet_at(text, 0)));
-    let ones = octets::wide(octets::digit_value(octets::octet_at(text, 1)));
+    let tens = usize::from(octets::digit_value(octets::octet_at(text, 0)));
+    let ones = usize::from(octets::digit_value(octets::octet_at(text, 1)));
     ((tens * 10 + ones) % 256) as u8
 }
 
@@ -101,27 +95,20 @@ fn put_stored(buf: &mut [u8], at: usize, area: &[u8], item: Item) -> usize
     requires { Within area.now item × (at + length (stored_in area.now item) + 16 ≤ length buf.old) }
     ensures { LaidCounted at (stored_in area.now item) buf.old result buf.new }
 {
-    let value = item.value;
-    let form = item.form;
-    match value {
-        Value::Number(n) => {
-            return put_number(buf, at, form, n);
-        }
+    match item.value {
+        Value::Number(n) => put_number(buf, at, item.form, n),
         Value::Address(n) => {
             let four = octets::u32_octets(n);
             buf[at..at + 4].copy_from_slice(&four);
-            return 4;
+            4
         }
         Value::Digits => {
             let digits = item.digits;
             let eight = octets::packed(digits);
             buf[at..at + 8].copy_from_slice(&eight);
-            return octets::packed_len(octets::least(digits.len, 15));
+            octets::packed_len(digits.len.min(15))
         }
-        Value::Plain(p) => {
-            let start = p.start;
-            return put_part(buf, at, form, &area[start..], p.len);
-        }
+        Value::Plain(part) => put_part(buf, at, item.form, &area[part.start..], part.len),
     }
 }
 
@@ -154,36 +141,25 @@ fn put_item(buf: &mut [u8], at: usize, area: &[u8], item: Item) -> usize
 
 // Lays the items of an area at the buffer's start, one behind the other, and counts them; or gives the first refusal of the framing.
 // "never longer than 9 + 2" times the area's length: the buffer has room for the items of any area so long, and for sixteen octets more.
-fn put_items(area: &[u8], buf: &mut [u8]) -> Tally
+fn put_items(area: &[u8], buf: &mut [u8]) -> Result<Tally, Refusal>
     requires { 2 * length area.now + 16 ≤ length buf.old }
     ensures { PassSays area.now result buf.new }
 {
     let mut place: usize = 0;
     let mut count: usize = 0;
     let mut written: usize = 0;
-    loop {
-        match area::step_at(area, place) {
-            Step::Attribute {
-                number,
-                value,
-                next,
-            } => {
-                let start = value.start;
-                let end = start + value.len;
-                put_names(buf, written, number);
-                let item = shape::item_of(&area[start..end], number, value);
-                written += put_item(buf, written, area, item);
-                place = next;
-                count += 1;
-            }
-            Step::Refused(refusal) => {
-                return Tally::Broken(refusal);
-            }
-            Step::End => {
-                return Tally::Whole { count, written };
-            }
-        }
+    while let Some(attribute) = area::step_at(area, place)? {
+        let number = attribute.number;
+        let value = attribute.value;
+        let start = value.start;
+        let end = start + value.len;
+        put_names(buf, written, number);
+        let item = shape::item_of(&area[start..end], number, value);
+        written += put_item(buf, written, area, item);
+        place = attribute.next;
+        count += 1;
     }
+    Ok(Tally { count, written })
 }
 
 // "Nine octets": mark, version, kind, flags and the number of items.
@@ -206,14 +182,20 @@ fn sheet_head(kind: u32, flags: u32, count: usize) -> [u8; 9]
 }
 
 // Lays a sheet, its head and its items, at the buffer's start; or refusal 9 where it has not the room.
-fn hand_over(kind: u32, flags: u32, count: usize, items: &[u8], sheet: &mut [u8]) -> Reading
+fn hand_over(
+    kind: u32,
+    flags: u32,
+    count: usize,
+    items: &[u8],
+    sheet: &mut [u8],
+) -> Result<usize, Refusal>
     requires { (kind < 256) × (flags < 256) × (count < 65536) × (length items.now ≤ longest_items) }
     ensures { Handed reading_of 9 (sheet_head current kind flags count ++ items.now)
         sheet.old result sheet.new }
 {
     let needed = 9 + items.len();
     if sheet.len() < needed {
-        return Reading::Refused(Refusal {
+        return Err(Refusal {
             number: 9,
             second: needed,
         });
@@ -221,50 +203,32 @@ fn hand_over(kind: u32, flags: u32, count: usize, items: &[u8], sheet: &mut [u8]
     let head = sheet_head(kind, flags, count);
     octets::copy_at(sheet, 0, &head);
     sheet[9..needed].copy_from_slice(items);
-    Reading::Sheet(needed)
+    Ok(needed)
 }
 
-// What an area that comes with a fit kind, flags and length is answered, by what the pass over it gave: the first of refusals 4 to 8,
-// or the sheet, whose items are copied from the buffer in which they were laid, so that nothing is written before every refusal is
-// ruled out.
-fn conclude(
+// What an area that comes with a fit kind, flags and length is answered: the first of refusals 4 to 8, or the sheet, whose items are
+// laid in a buffer of so many octets and copied from there, so that nothing is written before every refusal is ruled out.
+fn read_by<const N: usize>(
     area: &[u8],
     kind: u32,
     flags: u32,
-    tally: Tally,
-    made: &[u8],
     sheet: &mut [u8],
-) -> Reading
-    requires { Concluding kind flags area.now tally made.now }
+) -> Result<usize, Refusal>
+    requires { (arrival_of kind flags (length area.now) ≡ Ok tt) × (2 * length area.now + 16 ≤ N) × (N ≤ 8168) }
     ensures { Read kind flags area.now sheet.old result sheet.new }
 {
-    match tally {
-        Tally::Broken(refusal) => {
-            return Reading::Refused(refusal);
-        }
-        Tally::Whole { count, written } => {
-            return hand_over(kind, flags, count, &made[..written], sheet);
-        }
-    }
+    let mut buf = [0u8; N];
+    let tally = put_items(area, &mut buf)?;
+    hand_over(kind, flags, tally.count, &buf[..tally.written], sheet)
 }
 
-// Read: the sheet of an area, at the buffer's start; a refusal leaves the buffer as it was.
-pub fn read(area: &[u8], kind: u32, flags: u32, sheet: &mut [u8]) -> Reading
+// Read: the octets of the sheet of an area, which stands at the buffer's start; a refusal leaves the buffer as it was.
+pub fn read(area: &[u8], kind: u32, flags: u32, sheet: &mut [u8]) -> Result<usize, Refusal>
     ensures { Read kind flags area.now sheet.old result sheet.new }
 {
-    match area::arrive(area, kind, flags) {
-        Arrival::Refused(refusal) => {
-            return Reading::Refused(refusal);
-        }
-        Arrival::Fit => {
-            if area.len() <= SHORT_AREA {
-                let mut buf = [0u8; SHORT_ROOM];
-                let tally = put_items(area, &mut buf);
-                return conclude(area, kind, flags, tally, &buf, sheet);
-            }
-            let mut buf = [0u8; ROOM];
-            let tally = put_items(area, &mut buf);
-            return conclude(area, kind, flags, tally, &buf, sheet);
-        }
+    area::arrive(area, kind, flags)?;
+    if area.len() <= SHORT_AREA {
+        return read_by::<SHORT_ROOM>(area, kind, flags, sheet);
     }
+    read_by::<ROOM>(area, kind, flags, sheet)
 }

@@ -2,9 +2,10 @@
 // the status's digit, which goes to a descriptor by its number.
 #![tactic(auto)]
 
-ghost use Rattle.std.specs.Prelude.{◌≡◌, ◌<◌, length, take, IfOk};
+ghost use Rattle.std.specs.Prelude.{◌≡◌, ◌+◌, ◌-◌, ◌^◌, ◌<◌, ◌≤◌, min, IfSome, length, take, replicate, IfOk, MatchResult, IsTrue};
+ghost use Rattle.std.specs.Str.{IsUtf8};
 ghost use Rattle.std.specs.Io.{ReadsAtMost};
-ghost use Rattle.std.specs.Io.KnownBytes.{Consumes, IsAtEnd};
+ghost use Rattle.std.specs.Io.KnownBytes.{Consumes, ConsumesCount, IsAtEnd};
 
 use std::env::FillError;
 use std::fs::File;
@@ -19,14 +20,22 @@ const TOO_LONG: i32 = 36;
 
 // ---- Reading
 
-// Room for much of an input: zeros.
-pub fn large_buffer() -> [u8; 65536]
-    ensures { 65536 ≡ length result }
+// So many zeros: room for what is read, or laid.
+pub fn zeros<const N: usize>() -> [u8; N]
+    ensures { result ≡ replicate N 0 }
 {
-    [0; 65536]
+    [0; N]
 }
 
-// Reads until the buffer is full or the input ends, and tells the octets.
+// Room for much of an input: zeros.
+pub fn large_buffer() -> [u8; 65536]
+    ensures { result ≡ replicate 65536 0 }
+{
+    zeros()
+}
+
+// Reads until the buffer is full or the input ends, and tells the octets. The loop is written out, since of std's methods `read_exact`
+// tells no octets of an input that is shorter than the buffer, and `read_to_end` wants a heap.
 pub fn fill<R: Read>(from: &mut R, buf: &mut [u8]) -> Result<usize>
     ensures bound { ReadsAtMost result buf.new }
     ensures bytes { IfOk result (λ n. Consumes (R.remaining from.old) (R.remaining from.new) (take n buf.new)) }
@@ -44,23 +53,29 @@ pub fn fill<R: Read>(from: &mut R, buf: &mut [u8]) -> Result<usize>
 }
 
 // Reads past what is kept, and tells how much came; 0 is the end.
-fn more<R: Read>(from: &mut R) -> Result<usize> {
+fn more<R: Read>(from: &mut R) -> Result<usize>
+    ensures octets { ConsumesCount (R.remaining from.old) (R.remaining from.new) result }
+    ensures end { IfOk result (λ n. n ≡ 0 → IsAtEnd (R.remaining from.new)) }
+{
     let mut buf = [0u8; 4096];
     from.read(&mut buf)
 }
 
 // Counts the input to its end, with the octets had already; at most the largest 64-bit number.
-pub fn count<R: Read>(from: &mut R, had: u64) -> Result<u64> {
+pub fn count<R: Read>(from: &mut R, had: u64) -> Result<u64>
+    ensures least { IfOk result (λ n. had ≤ n) }
+    ensures all { IfOk result (λ n. IfSome (R.remaining from.old) (λ xs. n ≡ min (had + length xs) (2 ^ 64 - 1))) }
+{
     let mut total = had;
     for _ in 0..u64::MAX {
         let n = more(from)? as u64;
         if n == 0 {
             return Ok(total);
         }
-        if n > u64::MAX - total {
+        let Some(sum) = total.checked_add(n) else {
             return Ok(u64::MAX);
-        }
-        total += n;
+        };
+        total = sum;
     }
     Ok(total)
 }
@@ -68,11 +83,13 @@ pub fn count<R: Read>(from: &mut R, had: u64) -> Result<u64> {
 // ---- Names
 
 // A name as the text that std's paths are.
-pub fn path(name: &[u8]) -> Result<&str> {
-    match str::from_utf8(name) {
-        Ok(text) => Ok(text),
-        Err(_) => Err(Error::new(ErrorKind::InvalidInput, "a name that is not UTF-8")),
-    }
+pub fn path(name: &[u8]) -> Result<&str>
+    ensures { MatchResult result (λ text. (text.now ≡ name.now) × IsUtf8 name.now) (λ _. ¬ (IsUtf8 name.now)) }
+{
+    str::from_utf8(name).map_err(|_| Error::new(
+        ErrorKind::InvalidInput,
+        "a name that is not UTF-8",
+    ))
 }
 
 // Opens a file for reading.
@@ -86,34 +103,29 @@ pub fn open(rt: HostRuntime, name: &[u8]) -> Result<File> {
 pub fn argument(rt: HostRuntime, i: usize, buf: &mut [u8]) -> Result<usize>
     ensures { ReadsAtMost result buf.new }
 {
-    match rt.arg(i, buf) {
-        Ok(n) => Ok(n),
-        Err(FillError::TooLong) => Err(Error::from_raw_os_error(TOO_LONG)),
-        Err(FillError::NotPresent) => Err(Error::from(ErrorKind::InvalidInput)),
-    }
+    rt.arg(i, buf).map_err(|error| match error {
+        FillError::TooLong => Error::from_raw_os_error(TOO_LONG),
+        FillError::NotPresent => Error::from(ErrorKind::InvalidInput),
+    })
 }
 
 // Whether there is an argument of this number.
 fn has_argument(rt: HostRuntime, i: usize) -> bool {
     let mut octet = [0u8; 1];
-    match rt.arg(i, &mut octet) {
-        Err(FillError::NotPresent) => false,
-        _ => true,
-    }
+    !matches!(rt.arg(i, &mut octet), Err(FillError::NotPresent))
 }
 
 // How many arguments there are, the program's own name among them; eight where there are more.
-pub fn argument_count(rt: HostRuntime) -> usize {
-    for i in 0..8usize {
-        if !has_argument(rt, i) {
-            return i;
-        }
-    }
-    8
+pub fn argument_count(rt: HostRuntime) -> usize
+    ensures { result ≤ 8 }
+{
+    (0..8usize).find(|i| !has_argument(rt, *i)).unwrap_or(8)
 }
 
 // Whether an argument is this word, of at most sixteen octets.
-pub fn is_word(rt: HostRuntime, i: usize, word: &[u8]) -> bool {
+pub fn is_word(rt: HostRuntime, i: usize, word: &[u8]) -> bool
+    ensures { IsTrue result → length word.now ≤ 16 }
+{
     let mut text = [0u8; 16];
     let Ok(n) = rt.arg(i, &mut text) else {
         return false;
@@ -130,10 +142,8 @@ pub fn say(rt: HostRuntime, s: &[u8]) {
 
 // The words of an error's text without its number, which stands behind them.
 fn words(text: &str) -> &str {
-    match text.split_once(" (os error ") {
-        Some((front, _)) => front,
-        None => text,
-    }
+    text.split_once(" (os error ")
+        .map_or(text, |(front, _)| front)
 }
 
 // Says what could not be opened, read or written, and the system's reason.
@@ -150,7 +160,7 @@ pub fn fail(rt: HostRuntime, name: &[u8], error: Error) {
     say(rt, b"\n");
 }
 
-// Tells a status: one digit, as the last act.
+// Tells a status: one digit, as the last act. It takes the octet, since each program has statuses of its own that become one.
 pub fn tell(digit: u8) {
     io::write_all(STATUS_FILENO, &[digit]);
 }

@@ -13,16 +13,13 @@ use Rattle.meaning.specs.Refusals.{none, refusal, fault}
 use Rattle.meaning.specs.Sheet.{items_in, area_in, refused}
 use Rattle.area.specs.declared.Refusal.{Refusal}
 use Rattle.octets.specs.Parts.{part_of}
-use Rattle.item.specs.declared.Headed.{Headed}
-use Rattle.item.specs.declared.Headed.TheVariants.{Item, Refused}
+use Rattle.item.specs.declared.Head.{Head}
 use Rattle.item.specs.Stands.{stands_as}
-use Rattle.item.specs.Answers.{entered_at, headed_at}
+use Rattle.item.specs.Answers.{Headed, entered_at, headed_at}
 use Rattle.item.proofs.Entering.{a_refusal}
-use Rattle.writing.specs.declared.Pass.TheVariants.{Items, Broken}
-use Rattle.writing.specs.declared.Put.{Put}
-use Rattle.writing.specs.declared.Put.TheVariants as put_variants
+use Rattle.std.specs.Prelude.{Option, None, Some, Ok, Err}
 use Rattle.writing.specs.Attributes.{span, value_as, Attributed}
-use Rattle.writing.specs.Answers.{broken_as, Transcribed}
+use Rattle.writing.specs.Answers.{refused_as, Transcribed}
 use Rattle.writing.proofs.Valuing.{laid_not, laid_stands, laid_long}
 use Rattle.writing.proofs.Entries.{Entry, stored_here, no_entry, entry_here}
 use Rattle.writing.proofs.Walking.{items_at, items_start, items_enter, items_refuse, items_end, items_remain}
@@ -72,60 +69,60 @@ unfolding fault
 broken_here l out left place written k j some e = j.faults ∙ ap fault (items_refuse l left place k some e)
 
 -- where a refusal applies, nothing is said of the buffer
-refused_by : (l out : List ℕ) (n s : ℕ) → fault (items_in l) ≡ refusal n s → Transcribed l (broken_as n s) out
+refused_by : (l out : List ℕ) (n s : ℕ) → fault (items_in l) ≡ refusal n s → Transcribed l (Err (refused_as n s)) out
 refused_by l out n s e = record { says = rw e; holds = λ q. absurd (let z : ◌≡◌ {A = ℕ} 0 1 = cc in omega arith) }
 
 module _ (l d : List ℕ) (left place written : ℕ) (j : Transcribing l d left place written) (some : 0 < left) (o : Octets l) (r : Headed)
     (says : r ≡ headed_at l place) where
   -- a head that is refused
-  pub transcribing_refused : (out : List ℕ) (x : Refusal) → r ≡ Refused x → Transcribed l (Broken x) out
+  pub transcribing_refused : (out : List ℕ) (x : Refusal) → r ≡ Err x → Transcribed l (Err x) out
   transcribing_refused out x q =
       let a = a_refusal l place o r says x q in
       refused_by l out x.number x.second
       (broken_here l d left place written x.number j some a.0 ∙ ap (refusal x.number) (sym a.1))
 
   -- an item, and what the writer of its attribute answered
-  module _ (n f c behind : ℕ) (q : r ≡ Item n f c behind) (at : ℕ) (said : Put) (out : List ℕ)
-      (v : Attributed at n f c (stored_here l place o r says n f c behind q) d said out) where
+  module _ (h : Head) (q : r ≡ Ok h) (at : ℕ) (said : Option ℕ) (out : List ℕ)
+      (v : Attributed at h.number h.form h.count (stored_here l place o r says h q) d said out) where
     -- the octets that it stores
     abbrev st : List ℕ
-    st = stored_here l place o r says n f c behind q
+    st = stored_here l place o r says h q
 
     -- and the attribute that it gives
     abbrev attribute : List ℕ
-    attribute = attribute_octets n (value_as n f c st)
+    attribute = attribute_octets h.number (value_as h.number h.form h.count st)
 
-    pub transcribing_23 : said ≡ put_variants.Nothing → Transcribed l (broken_as 23 place) out
+    pub transcribing_23 : said ≡ None → Transcribed l (Err (refused_as 23 place)) out
     transcribing_23 e =
         refused_by l out 23 place
-        (broken_here l d left place written 23 j some (no_entry l place o r says n f c behind q (laid_not _ _ _ _ _ _ v e)))
+        (broken_here l d left place written 23 j some (no_entry l place o r says h q (laid_not _ _ _ _ _ _ v e)))
 
-    module _ (put : ℕ) (h : said ≡ put_variants.Octets put) where
-      stands : stands_as n f c st ≡ true
-      stands = laid_stands _ _ _ _ _ _ v put h
+    module _ (put : ℕ) (x : said ≡ Some put) where
+      stands : stands_as h.number h.form h.count st ≡ true
+      stands = laid_stands _ _ _ _ _ _ v put x
 
       put_is : put ≡ length attribute
-      put_is = laid_long _ _ _ _ _ _ v put h
+      put_is = laid_long _ _ _ _ _ _ v put x
 
       -- what is known of it
-      abbrev e : Entry l place n (value_as n f c st) behind
-      e = entry_here l place o r says n f c behind q stands
+      abbrev e : Entry l place h.number (value_as h.number h.form h.count st) h.next
+      e = entry_here l place o r says h q stands
 
       pub put_short : put < 256
       put_short = omega (arith, e.short, put_is)
 
-      pub transcribing_more : span ≤ length d → at ≡ min written (length d - span) → Transcribing l out (left - 1) behind (written + put)
+      pub transcribing_more : span ≤ length d → at ≡ min written (length d - span) → Transcribing l out (left - 1) h.next (written + put)
       unfolding fault attributes area_of
       transcribing_more room place_is =
           let b = v.is stands in
-          let w : items_at l left place ≡ next (record { place = place; number = n; value = value_as n f c st }) (items_at l (left - 1) behind) =
-          items_enter l left place n (value_as n f c st) e.size some e.entered_is
-          ∙ ap (λ (b : ℕ). next (record { place = place; number = n; value = value_as n f c st }) (items_at l (left - 1) b)) (sym e.behind_is) in
+          let w : items_at l left place ≡ next (record { place = place; number = h.number; value = value_as h.number h.form h.count st }) (items_at l (left - 1) h.next) =
+          items_enter l left place h.number (value_as h.number h.form h.count st) e.size some e.entered_is
+          ∙ ap (λ (b : ℕ). next (record { place = place; number = h.number; value = value_as h.number h.form h.count st }) (items_at l (left - 1) b)) (sym e.behind_is) in
           record {
             gone = j.gone ++ attribute;
             whole =
                 j.whole ∙ ap (λ (w : Walk). j.gone ++ area_of (attributes w)) w
-                ∙ sym (append_assoc j.gone attribute (area_of (attributes (items_at l (left - 1) behind))));
+                ∙ sym (append_assoc j.gone attribute (area_of (attributes (items_at l (left - 1) h.next))));
             faults = j.faults ∙ ap fault w;
             long = length-append j.gone attribute ∙ omega (arith, j.long, put_is);
             few = omega (arith, put_short, j.few);
@@ -138,11 +135,11 @@ module _ (l d : List ℕ) (left place written : ℕ) (j : Transcribing l d left 
 
 -- no item is left: 22, or the octets of the attributes
 module _ (l out : List ℕ) (left place written : ℕ) (j : Transcribing l out left place written) (none_left : left ≡ 0) where
-  pub transcribing_22 : place < length l → Transcribed l (broken_as 22 place) out
+  pub transcribing_22 : place < length l → Transcribed l (Err (refused_as 22 place)) out
   unfolding fault
   transcribing_22 h = refused_by l out 22 place (j.faults ∙ ap fault (items_remain l left place none_left h))
 
-  pub transcribing_all : length l ≤ place → Transcribed l (Items written) out
+  pub transcribing_all : length l ≤ place → Transcribed l (Ok written) out
   unfolding fault attributes area_of
   transcribing_all h =
       let done : items_at l left place ≡ end = items_end l left place none_left h in

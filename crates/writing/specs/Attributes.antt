@@ -1,6 +1,6 @@
 -- The attribute that an item gives, as the writers lay it: its head and its value, by the item's number, form, count and stored
 -- octets. Assumes nothing.
-use Rattle.std.specs.Prelude.{◌≡◌, ℕ, ◌+◌, ◌*◌, ◌-◌, ◌/◌, ◌%◌, Bool, true, cond, List, [], ◌∷◌, ◌++◌, eqb, length, drop, get_or, set}
+use Rattle.std.specs.Prelude.{◌≡◌, ℕ, ◌+◌, ◌*◌, ◌-◌, ◌/◌, ◌%◌, Bool, true, cond, List, [], ◌∷◌, ◌++◌, eqb, length, drop, get_or, set, Option, None, Some}
 use Rattle.meaning.specs.Octets.{digit_text, text, unpack, octets_of}
 use Rattle.meaning.specs.Framing.{is_plain, attribute_octets, vendor3gpp}
 use Rattle.meaning.specs.Shapes.{shape_of}
@@ -8,8 +8,6 @@ use Rattle.octets.specs.Parts.{Begun}
 use Rattle.octets.specs.DigitStrings.{packed_digits, decimals}
 use Rattle.shape.specs.Codes.{code_of}
 use Rattle.item.specs.Stands.{stands_as}
-use Rattle.writing.specs.declared.Put.{Put}
-use Rattle.writing.specs.declared.Put.TheVariants.{Octets, Nothing}
 
 -- room for one attribute wherever it begins: a head of 8 octets and a value of at most 255
 abbrev pub span : ℕ
@@ -42,10 +40,10 @@ pub record Digited (at count : ℕ) (st d : List ℕ) (said : Bool) (out : List 
   pub is : said ≡ true → Begun at (decimals (unpack count st)) d out
 
 -- what a writer of octets at a place says, how many they are where they stand for an item, and that they are there then
-pub record Laying (at : ℕ) (stands : Bool) (value d : List ℕ) (said : Put) (out : List ℕ) : Type 0 where
-  pub says : said ≡ cond stands (Octets (length value)) Nothing
+pub record Laying (at : ℕ) (stands : Bool) (value d : List ℕ) (said : Option ℕ) (out : List ℕ) : Type 0 where
+  pub says : said ≡ cond stands (Some (length value)) None
   pub is : stands ≡ true → Begun at value d out
 
 -- the same of an item's attribute
-abbrev pub Attributed : (at number form count : ℕ) (stored buffer : List ℕ) (said : Put) (held : List ℕ) → Type 0
+abbrev pub Attributed : (at number form count : ℕ) (stored buffer : List ℕ) (said : Option ℕ) (held : List ℕ) → Type 0
 Attributed at n f c st = Laying at (stands_as n f c st) (attribute_octets n (value_as n f c st))

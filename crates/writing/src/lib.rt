@@ -2,7 +2,7 @@
 // in a buffer of its own; the area is copied from there when every refusal is ruled out.
 #![tactic(auto)]
 
-ghost use Rattle.std.specs.Prelude.{◌≡◌, cond, ◌&&◌, ◌+◌, ◌*◌, ◌%◌, ◌≤◌, ◌<◌, eqb, length, take};
+ghost use Rattle.std.specs.Prelude.{◌≡◌, cond, ◌&&◌, ◌+◌, ◌*◌, ◌%◌, ◌≤◌, ◌<◌, eqb, length, take, Ok};
 ghost use Rattle.meaning.specs.Versions.{current};
 ghost use Rattle.meaning.specs.Octets.{digit_text, text, unpack, packed_length};
 ghost use Rattle.meaning.specs.Shapes.{shape_of};
@@ -14,10 +14,10 @@ ghost use Rattle.item.specs.Stands.{raw, shaped, stands_as};
 ghost use Rattle.writing.specs.Attributes.{span, profile_text, value_as, attribute_front, lengths_at, Digited, Laying, Attributed};
 ghost use Rattle.meaning.specs.Refusals as book;
 ghost use Rattle.writing.specs.Starts.{filled, start_by, start_refusal};
-ghost use Rattle.writing.specs.Answers.{start_said, front_of, broken_as, Transcribed, ended_as, judgement_of, size_of, HandedOver, Wrote};
+ghost use Rattle.writing.specs.Answers.{start_said, front_of, refused_as, Transcribed, Made, judgement_of, HandedOver, Wrote};
 
 use area::Refusal;
-use item::Headed;
+use item::Head;
 
 // 24: the longest area that is written.
 const LONGEST: usize = 4076;
@@ -36,46 +36,12 @@ const SHORT_AREA: usize = 377;
 
 const SHORT_ROOM: usize = 640;
 
-// What writing answers: the octets of the area that stands at the buffer's start, with the kind and flags of the sheet, or a refusal.
+// What is said of a sheet that is written: the octets of its area, with the kind and flags that stand in the sheet.
 #[derive(Clone, Copy)]
-pub enum Writing {
-    Area { length: usize, kind: u8, flags: u8 },
-    Refused(Refusal),
-}
-
-// What a sheet is judged: written, with the octets of its area, its kind and its flags, or refused.
-#[derive(Clone, Copy)]
-pub enum Judgement {
-    Writable { size: usize, kind: u8, flags: u8 },
-    Refused(Refusal),
-}
-
-// What the first octets of a longer sheet decide of it: a refusal, or that it hangs on the rest.
-#[derive(Clone, Copy)]
-pub enum Start {
-    Refused(Refusal),
-    Open,
-}
-
-// What the front of a sheet says: that its items are to be judged, or 20 or 21.
-#[derive(Clone, Copy)]
-enum Front {
-    Fit,
-    Refused(Refusal),
-}
-
-// What the items of a sheet say: the octets of their attributes, or 22 or 23.
-#[derive(Clone, Copy)]
-enum Pass {
-    Items(usize),
-    Broken(Refusal),
-}
-
-// What a writer of a value or an attribute says: its octets, or that no readable attribute gives the item.
-#[derive(Clone, Copy)]
-enum Put {
-    Octets(usize),
-    Nothing,
+pub struct Written {
+    pub length: usize,
+    pub kind: u8,
+    pub flags: u8,
 }
 
 // Lays what stands before an attribute's value but for its lengths: the type, or type 26, the vendor id and the sub-attribute number.
@@ -156,144 +122,131 @@ fn put_digits(buf: &mut [u8], at: usize, count: usize, stored: &[u8]) -> bool
     true
 }
 
-// Lays four octets of a number or an address, where the item's number is of that form; `Nothing` where it is not.
-fn put_fours(buf: &mut [u8], at: usize, own: bool, stored: &[u8]) -> Put
+// Lays four octets of a number or an address, where the item's number is of that form; `None` where it is not.
+fn put_fours(buf: &mut [u8], at: usize, own: bool, stored: &[u8]) -> Option<usize>
     requires { at + 4 ≤ length buf.old }
     ensures { Laying at (own && eqb (length stored.now) 4) stored.now buf.old result
         buf.new }
 {
     if !own {
-        return Put::Nothing;
+        return None;
     }
     if stored.len() != 4 {
-        return Put::Nothing;
+        return None;
     }
     let four = [stored[0], stored[1], stored[2], stored[3]];
     buf[at..at + 4].copy_from_slice(&four);
-    Put::Octets(4)
+    Some(4)
 }
 
-// Lays the digits of an item in form 4 and gives their count; `Nothing` where no readable attribute gives the item.
-fn put_packed(buf: &mut [u8], at: usize, code: u8, count: u8, stored: &[u8]) -> Put
+// Lays the digits of an item in form 4 and gives their count; `None` where no readable attribute gives the item.
+fn put_packed(buf: &mut [u8], at: usize, code: u8, count: u8, stored: &[u8]) -> Option<usize>
     requires { (length stored.now ≡ packed_length count) × (at + 255 ≤ length buf.old) }
     ensures { Laying at (shaped (shape_by code) 4 count stored.now) (text (unpack count stored.now))
         buf.old result buf.new }
 {
-    let n = octets::wide(count);
+    let n = usize::from(count);
     if !item::takes_digits(code, count) {
-        return Put::Nothing;
+        return None;
     }
     if !put_digits(buf, at, n, stored) {
-        return Put::Nothing;
+        return None;
     }
-    Put::Octets(n)
+    Some(n)
 }
 
-// Lays the text of an item in form 6 and gives its octets; `Nothing` where no readable attribute gives the item.
-fn put_qos(buf: &mut [u8], at: usize, code: u8, stored: &[u8]) -> Put
+// Lays the text of an item in form 6 and gives its octets; `None` where no readable attribute gives the item.
+fn put_qos(buf: &mut [u8], at: usize, code: u8, stored: &[u8]) -> Option<usize>
     requires { at + 255 ≤ length buf.old }
     ensures { Laying at (shaped (shape_by code) 6 (length stored.now) stored.now)
         (profile_text stored.now) buf.old result buf.new }
 {
     if code != shape::QOS {
-        return Put::Nothing;
+        return None;
     }
     if !item::holds_qos(stored) {
-        return Put::Nothing;
+        return None;
     }
     put_profile(buf, at, stored);
-    Put::Octets(1 + 2 * stored.len())
+    Some(1 + 2 * stored.len())
 }
 
-// Lays a value that stands as it is, the first `size` octets of `rest`, and gives its octets; `Nothing` where no readable attribute gives
+// Lays a value that stands as it is, the first `size` octets of `rest`, and gives its octets; `None` where no readable attribute gives
 // the item. A short one goes with what stands behind it.
 fn put_raw(
     buf: &mut [u8],
     at: usize,
-    number: u16,
     code: u8,
-    form: u8,
+    head: Head,
     rest: &[u8],
     size: usize,
-) -> Put
+) -> Option<usize>
     requires { (size ≤ length rest.now) × (at + 255 ≤ length buf.old) }
-    ensures { Laying at (raw number code form (take size rest.now)) (take size rest.now) buf.old result
+    ensures { Laying at (raw head.number code head.form (take size rest.now)) (take size rest.now) buf.old result
         buf.new }
 {
-    if !item::is_raw(number, code, form, &rest[..size]) {
-        return Put::Nothing;
+    if !item::is_raw(head.number, code, head.form, &rest[..size]) {
+        return None;
     }
     if size <= 16 {
         octets::copy_sixteen(buf, at, rest);
     } else {
         octets::copy_long(buf, at, &rest[..size]);
     }
-    Put::Octets(size)
+    Some(size)
 }
 
-// Lays the value that an item stands for, by the first `size` octets of `rest`, and gives its octets; `Nothing` where no readable attribute
+// Lays the value that an item stands for, by the first `size` octets of `rest`, and gives its octets; `None` where no readable attribute
 // gives the item.
 fn put_value(
     buf: &mut [u8],
     at: usize,
-    number: u16,
     code: u8,
-    form: u8,
-    count: u8,
+    head: Head,
     rest: &[u8],
     size: usize,
-) -> Put
-    requires { (code ≡ code_of (shape_of number)) ×
-        ((size ≡ stored_length current form count) × ((size ≤ length rest.now) × (at + 255 ≤ length buf.old))) }
-    ensures { Laying at (stands_as number form count (take size rest.now))
-        (value_as number form count (take size rest.now)) buf.old result buf.new }
+) -> Option<usize>
+    requires { (code ≡ code_of (shape_of head.number)) ×
+        ((size ≡ stored_length current head.form head.count) × ((size ≤ length rest.now) × (at + 255 ≤ length buf.old))) }
+    ensures { Laying at (stands_as head.number head.form head.count (take size rest.now))
+        (value_as head.number head.form head.count (take size rest.now)) buf.old result buf.new }
 {
     let stored = &rest[..size];
-    match form {
+    match head.form {
         2 => put_fours(buf, at, code == shape::NUMBER, stored),
         3 => put_fours(buf, at, code == shape::ADDRESS, stored),
-        4 => put_packed(buf, at, code, count, stored),
+        4 => put_packed(buf, at, code, head.count, stored),
         5 => {
             if (code != shape::HEXADECIMAL) | (size != 8) {
-                return Put::Nothing;
+                return None;
             }
             octets::unpack_at(buf, at, stored, 16);
-            Put::Octets(16)
+            Some(16)
         }
         6 => put_qos(buf, at, code, stored),
         7 => {
             if !item::is_octet(code, stored) {
-                return Put::Nothing;
+                return None;
             }
             buf[at] = octet_text(code, stored[0]);
-            Put::Octets(1)
+            Some(1)
         }
-        _ => put_raw(buf, at, number, code, form, rest, size),
+        _ => put_raw(buf, at, code, head, rest, size),
     }
 }
 
-// Lays the attribute that an item gives and says how many octets it has; `Nothing` where no readable attribute gives the item.
-fn put_attribute(
-    buf: &mut [u8],
-    at: usize,
-    number: u16,
-    form: u8,
-    count: u8,
-    rest: &[u8],
-    size: usize,
-) -> Put
-    requires { (number < 512) × ((size ≡ stored_length current form count)
+// Lays the attribute that an item gives and says how many octets it has; `None` where no readable attribute gives the item.
+fn put_attribute(buf: &mut [u8], at: usize, head: Head, rest: &[u8], size: usize) -> Option<usize>
+    requires { (head.number < 512) × ((size ≡ stored_length current head.form head.count)
         × ((size ≤ length rest.now) × (at + span ≤ length buf.old))) }
-    ensures { Attributed at number form count (take size rest.now) buf.old result buf.new }
+    ensures { Attributed at head.number head.form head.count (take size rest.now) buf.old result buf.new }
 {
-    let code = shape::code_of(number);
-    let head = area::head_len(number);
-    put_front(buf, at, number);
-    let Put::Octets(put) = put_value(buf, at + head, number, code, form, count, rest, size) else {
-        return Put::Nothing;
-    };
-    put_lengths(buf, at, head, put);
-    Put::Octets(head + put)
+    let code = shape::code_of(head.number);
+    let before = area::head_len(head.number);
+    put_front(buf, at, head.number);
+    let put = put_value(buf, at + before, code, head, rest, size)?;
+    put_lengths(buf, at, before, put);
+    Some(before + put)
 }
 
 // Whether octets begin with the mark and the version of a sheet and have its nine octets.
@@ -308,112 +261,89 @@ fn is_marked(sheet: &[u8]) -> bool
 }
 
 // 22 or 23, at a place of a sheet.
-fn broken(number: u32, place: usize) -> Pass
-    ensures { result ≡ broken_as number place }
+fn broken(number: u32, place: usize) -> Refusal
+    ensures { result ≡ refused_as number place }
 {
-    Pass::Broken(Refusal {
+    Refusal {
         number,
         second: place,
-    })
+    }
 }
 
-// Tests and lays the items of a sheet from the left, and tests what remains behind them. An item that begins behind the last place where
-// any has room is laid at that place again and again, and counted.
-fn transcribe(sheet: &[u8], buf: &mut [u8]) -> Pass
+// Tests and lays the items of a sheet from the left, tests what remains behind them and says how many octets their attributes have. An
+// item that begins behind the last place where any has room is laid at that place again and again, and counted.
+fn transcribe(sheet: &[u8], buf: &mut [u8]) -> Result<usize, Refusal>
     requires { (9 ≤ length sheet.now) × (span ≤ length buf.old) }
     ensures { Transcribed sheet.now result buf.new }
 {
     let last = buf.len() - SPAN;
-    let mut left = octets::u16_at(sheet, 7) as usize;
+    let count = octets::u16_at(sheet, 7);
     let mut place: usize = 9;
     let mut written: usize = 0;
-    while left > 0 {
-        match item::head_at(sheet, place) {
-            Headed::Item {
-                number,
-                form,
-                count,
-                next,
-            } => {
-                let at = octets::least(written, last);
-                let behind = place + 4;
-                let rest = &sheet[behind..];
-                let size = next - behind;
-                let Put::Octets(put) = put_attribute(buf, at, number, form, count, rest, size)
-                else {
-                    return broken(23, place);
-                };
-                written += put;
-                place = next;
-                left -= 1;
-            }
-            Headed::Refused(refusal) => {
-                return Pass::Broken(refusal);
-            }
-        }
+    for _item in 0..count {
+        let head = item::head_at(sheet, place)?;
+        let at = written.min(last);
+        let behind = place + 4;
+        let rest = &sheet[behind..];
+        let size = head.next - behind;
+        let Some(put) = put_attribute(buf, at, head, rest, size) else {
+            return Err(broken(23, place));
+        };
+        written += put;
+        place = head.next;
     }
     if place < sheet.len() {
-        return broken(22, place);
+        return Err(broken(22, place));
     }
-    Pass::Items(written)
-}
-
-// What is said of a sheet by what its items say: 22 or 23, 24, or that it is written.
-#[tactic(auto, unfolding(crate::specs::Answers::ended_as))]
-fn ended(sheet: &[u8], pass: Pass) -> Judgement
-    requires { 9 ≤ length sheet.now }
-    ensures { result ≡ ended_as sheet.now pass }
-{
-    match pass {
-        Pass::Broken(refusal) => Judgement::Refused(refusal),
-        Pass::Items(written) => {
-            if LONGEST < written {
-                return Judgement::Refused(Refusal {
-                    number: 24,
-                    second: written,
-                });
-            }
-            Judgement::Writable {
-                size: written,
-                kind: sheet[5],
-                flags: sheet[6],
-            }
-        }
-    }
+    Ok(written)
 }
 
 // 20 and 21: whether it is the items' turn.
-fn front_of(sheet: &[u8]) -> Front
+fn front_of(sheet: &[u8]) -> Result<(), Refusal>
     ensures { result ≡ front_of sheet.now }
 {
     if !is_marked(sheet) {
-        return Front::Refused(Refusal {
+        return Err(Refusal {
             number: 20,
             second: 0,
         });
     }
-    if !(area::is_kind(octets::wide32(sheet[5])) & area::are_flags(octets::wide32(sheet[6]))) {
-        return Front::Refused(Refusal {
+    if !(area::is_kind(u32::from(sheet[5])) & area::are_flags(u32::from(sheet[6]))) {
+        return Err(Refusal {
             number: 21,
             second: 0,
         });
     }
-    Front::Fit
+    Ok(())
 }
 
-// Whether a sheet is written, given room, or the first of refusals 20 to 24.
-pub fn judge(sheet: &[u8]) -> Judgement
+// What a sheet whose front is in order is judged: 22 or 23, 24, or that it is written. Its area is laid at the buffer's start, where that
+// has room behind it.
+fn make(sheet: &[u8], buf: &mut [u8]) -> Result<Written, Refusal>
+    requires { (front_of sheet.now ≡ Ok tt) × (span ≤ length buf.old) }
+    ensures { Made sheet.now result buf.new }
+{
+    let length = transcribe(sheet, buf)?;
+    if LONGEST < length {
+        return Err(Refusal {
+            number: 24,
+            second: length,
+        });
+    }
+    Ok(Written {
+        length,
+        kind: sheet[5],
+        flags: sheet[6],
+    })
+}
+
+// What is said of a sheet that is written, given room, or the first of refusals 20 to 24.
+pub fn judge(sheet: &[u8]) -> Result<Written, Refusal>
     ensures { result ≡ judgement_of sheet.now }
 {
-    match front_of(sheet) {
-        Front::Refused(refusal) => {
-            return Judgement::Refused(refusal);
-        }
-        Front::Fit => {
-            let mut buf = [0u8; SPAN];
-            return ended(sheet, transcribe(sheet, &mut buf));
-        }
-    }
+    front_of(sheet)?;
+    let mut buf = [0u8; SPAN];
+    make(sheet, &mut buf)
 }
 
 // Whether the items of a sheet fill it exactly.
@@ -421,107 +351,71 @@ fn is_filled(sheet: &[u8]) -> bool
     ensures { result ≡ filled (judged sheet.now) }
 {
     match judge(sheet) {
-        Judgement::Writable { .. } => true,
-        Judgement::Refused(refusal) => refusal.number == 24,
+        Ok(_) => true,
+        Err(refusal) => refusal.number == 24,
     }
-}
-
-// 22, at a place of a sheet.
-fn remaining(place: usize) -> Start
-    ensures { result ≡ start_said (book.refusal 22 place) }
-{
-    Start::Refused(Refusal {
-        number: 22,
-        second: place,
-    })
 }
 
 // What kept octets decide that are refused by themselves.
-fn start_by(kept: &[u8], refusal: Refusal) -> Start
+fn start_by(kept: &[u8], refusal: Refusal) -> Option<Refusal>
     ensures { result ≡ start_said (start_by kept.now (book.refusal refusal.number refusal.second)) }
 {
     if refusal.number == 24 {
-        return remaining(kept.len());
+        return Some(broken(22, kept.len()));
     }
     if refusal.number == 22 {
         if is_filled(octets::part(kept, 0, refusal.second)) {
-            return remaining(refusal.second);
+            return Some(broken(22, refusal.second));
         }
-        return Start::Open;
+        return None;
     }
     if kept.len() < 9 {
-        return Start::Open;
+        return None;
     }
-    Start::Refused(refusal)
+    Some(refusal)
 }
 
-// What the first octets of a longer sheet decide of it.
-pub fn judge_start(kept: &[u8]) -> Start
+// What the first octets of a longer sheet decide of it: a refusal, or `None` where it hangs on the rest.
+pub fn judge_start(kept: &[u8]) -> Option<Refusal>
     ensures { result ≡ start_said (start_refusal kept.now) }
 {
     match judge(kept) {
-        Judgement::Writable { .. } => remaining(kept.len()),
-        Judgement::Refused(refusal) => start_by(kept, refusal),
+        Ok(_) => Some(broken(22, kept.len())),
+        Err(refusal) => start_by(kept, refusal),
     }
 }
 
-// The octets of the area that a judgement tells of, 0 where it tells of none.
-fn size_of(said: Judgement) -> usize
-    ensures { result ≡ size_of said }
+// What a sheet that is written is answered: its area, which a buffer begins with, laid over the start of the lent one; or refusal 25 where
+// that has not the room for it.
+fn hand_over(written: Written, made: &[u8], area: &mut [u8]) -> Result<Written, Refusal>
+    requires { written.length ≤ length made.now }
+    ensures { HandedOver written made.now area.old result area.new }
 {
-    match said {
-        Judgement::Refused(_) => 0,
-        Judgement::Writable { size, .. } => size,
+    let length = written.length;
+    if area.len() < length {
+        return Err(Refusal {
+            number: 25,
+            second: length,
+        });
     }
-}
-
-// What a judged sheet is answered: the area, which a buffer begins with, laid over the start of the lent one; refusal 25 where that has not
-// the room for it; or the refusal that was judged.
-fn hand_over(said: Judgement, made: &[u8], area: &mut [u8]) -> Writing
-    requires { size_of said ≤ length made.now }
-    ensures { HandedOver said made.now area.old result area.new }
-{
-    match said {
-        Judgement::Refused(refusal) => {
-            return Writing::Refused(refusal);
-        }
-        Judgement::Writable { size, kind, flags } => {
-            if area.len() < size {
-                return Writing::Refused(Refusal {
-                    number: 25,
-                    second: size,
-                });
-            }
-            area[..size].copy_from_slice(&made[..size]);
-            return Writing::Area {
-                length: size,
-                kind,
-                flags,
-            };
-        }
-    }
+    area[..length].copy_from_slice(&made[..length]);
+    Ok(written)
 }
 
 // Write: what a sheet was read from, the area at the buffer's start; a refusal leaves the buffer as it was. An area that the
 // short buffer has no room for is made again.
-pub fn write(sheet: &[u8], area: &mut [u8]) -> Writing
+pub fn write(sheet: &[u8], area: &mut [u8]) -> Result<Written, Refusal>
     ensures { Wrote sheet.now area.old result area.new }
 {
-    match front_of(sheet) {
-        Front::Refused(refusal) => {
-            return Writing::Refused(refusal);
-        }
-        Front::Fit => {
-            if sheet.len() <= SHORT_SHEET {
-                let mut buf = [0u8; SHORT_ROOM];
-                let said = ended(sheet, transcribe(sheet, &mut buf));
-                if size_of(said) <= SHORT_AREA {
-                    return hand_over(said, &buf, area);
-                }
-            }
-            let mut buf = [0u8; ROOM];
-            let said = ended(sheet, transcribe(sheet, &mut buf));
-            return hand_over(said, &buf, area);
+    front_of(sheet)?;
+    if sheet.len() <= SHORT_SHEET {
+        let mut buf = [0u8; SHORT_ROOM];
+        let written = make(sheet, &mut buf)?;
+        if written.length <= SHORT_AREA {
+            return hand_over(written, &buf, area);
         }
     }
+    let mut buf = [0u8; ROOM];
+    let written = make(sheet, &mut buf)?;
+    hand_over(written, &buf, area)
 }

@@ -15,4 +15,4 @@ overflow_add-result c = omega (arith, c.head_len-head.ensures, head_eight c.numb
 pub returns : goal.returns
 returns c =
     carried_here _ _ (omega arith) _ _ _ _ c.number_at-number.ensures
-    c.head_len-head.ensures (c.wide-size.ensures ∙ c.octet_at.ensures) c.rest.ensures
+    c.head_len-head.ensures (c.from-size.ensures ∙ c.octet_at.ensures) c.rest.ensures

@@ -14,11 +14,11 @@ returns-then-left-size c = c.refused-then-left-size.ensures ∙ ap (step_of _) (
 pub returns-then-t-eq26 : goal.returns-then-t-eq26
 returns-then-t-eq26 c =
     c.vendor_step.ensures
-    ∙ rw c.wide-size.ensures
+    ∙ rw c.from-size.ensures
     (ap (step_of _) (sym (found_vendor _ _ (omega arith) (omega arith) (omega arith) (omega arith))))
 
 pub returns-else-t-eq26 : goal.returns-else-t-eq26
 returns-else-t-eq26 c =
     c.attribute.ensures
-    ∙ rw (c.plain.ensures, c.wide-size.ensures)
+    ∙ rw (c.plain.ensures, c.from-size.ensures)
     (ap (step_of _) (sym (found_plain _ _ (omega arith) (omega arith) (omega arith) (omega arith))))

@@ -1,15 +1,18 @@
--- Each return is one verdict on the line, with those before it ruled out. Assumes nothing.
-use native.Mathlib.Omega.{arith}
-use Rattle.filing.proofs.Names.{no_tab, two_tabs, one_tab}
+-- A second tab is looked for behind the first. Assumes nothing.
+use Rattle.std.proofs.Common.{arith}
+use Rattle.std.proofs.lemmas.Grind.{common_steps}
+use Rattle.filing.specs.Names.{line_of, line_with}
+use Rattle.filing.proofs.Names.{place_is}
 use Rattle.filing.proofs.split.Goals as goal
 
-pub returns-then-line-tab : goal.returns-then-line-tab
-returns-then-line-tab c = no_tab c.args.line.now _ c.before-tab.ensures (omega arith)
+pub returns-in_default : goal.returns-in_default
+unfolding line_of line_with
+returns-in_default c = grind (arith, common_steps, place_is 9 c.args.line.now)
 
-pub returns-then-before-line : goal.returns-then-before-line
-returns-then-before-line c =
-    two_tabs c.args.line.now _ c.before-tab.ensures (omega arith) _ c.before-2.ensures (omega arith)
+pub returns-then-has : goal.returns-then-has
+unfolding line_of line_with
+returns-then-has c = grind (arith, common_steps, place_is 9 c.args.line.now)
 
 pub returns : goal.returns
-returns c =
-    one_tab c.args.line.now _ c.before-tab.ensures (omega arith) _ c.before-2.ensures (omega arith)
+unfolding line_of line_with
+returns c = grind (arith, common_steps, place_is 9 c.args.line.now)

@@ -1,10 +1,6 @@
 -- The entries passed stand over the start. Assumes nothing.
 use Rattle.lines.proofs.Listing.{Entered}
-use Prim.Native.Nat.{◌-◌}
 use Rattle.lines.proofs.lay.Given as goal
 
 abbrev pub invariant-loop-i : goal.invariant-loop-i
-invariant-loop-i l = Entered l.behind l.list l.end l.initial.text l.text l.i
-
-abbrev pub decreases-loop-i : goal.decreases-loop-i
-decreases-loop-i l = l.end - l.i
+invariant-loop-i l = Entered l.behind l.list l.initial.text l.text l.i

@@ -4,5 +4,4 @@ use Rattle.lines.proofs.refusal.Goals as goal
 
 pub returns : goal.returns
 returns c =
-    let b = c in
-    refusal_pieces _ _ b.nothing.ensures b.with-word.ensures b.with_decimal.ensures c.with-first.ensures c.with_decimal-2.ensures c.with.ensures
+    refusal_pieces _ _ c.new.ensures c.with.ensures c.with_decimal.ensures c.with-2.ensures c.with_decimal-2.ensures c.with-3.ensures

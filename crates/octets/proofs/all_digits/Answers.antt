@@ -1,23 +1,29 @@
--- The eights passed are decimal digits; the last eight, some of which are passed, decide. Assumes nothing.
-use mathlib.Core.Path.{refl, sym, ◌∙◌}
-use mathlib.Core.Bool.{true}
-use borrow.Author.Tests.{not-true, not-false}
+-- Few octets are tested one by one; the eights and the last eight leave none out. Assumes nothing.
+use mathlib.Core.Path.{◌≡◌, refl, sym, ◌∙◌}
+use mathlib.Core.Bool.{true, false, ◌&&◌}
 use native.Mathlib.Omega.{arith}
+use lib.ListN.{length}
+use Prim.Native.Nat.{◌/◌}
+use Rattle.std.specs.List.{fold}
+use Rattle.std.proofs.lemmas.Grind.{common_steps}
 use Rattle.meaning.specs.Octets.{is_digit}
-use Rattle.octets.proofs.EachOne.{part_fails, tested_none, tested_part, tested_last}
+use Rattle.octets.proofs.EachOne.{fold_all, chunks_last}
 use Rattle.octets.proofs.all_digits.Goals as goal
 
-pub returns-then-s-lt8 : goal.returns-then-s-lt8
-returns-then-s-lt8 c = c.few_are_digits.ensures
+pub returns-in_default : goal.returns-in_default
+returns-in_default c =
+    let e : c.fold.result ≡ fold (λ b x. b && is_digit x) true c.args.s.now = grind (arith, common_steps) in
+    e ∙ fold_all is_digit c.args.s.now
 
-pub loop-i-init : goal.loop-i-init
-loop-i-init c = (tested_none is_digit _, omega arith)
+pub returns-then-eights_are_digits : goal.returns-then-eights_are_digits
+returns-then-eights_are_digits c =
+    let s = c.args.s.now in
+    chunks_last is_digit s _ _ 8 (length s / 8) c.as_chunks.ensures.front (omega arith) c.in-Some.ensures.cases.1.same true _
+    (sym c.if-eights_are_digits.true ∙ c.eights_are_digits.ensures) c.eight_digits.ensures
 
-pub returns-then-not-eight_digits : goal.returns-then-not-eight_digits
-returns-then-not-eight_digits c = sym (part_fails is_digit _ _ 8 (sym c.eight_digits.ensures ∙ not-true _ c.if-not-eight_digits.true-raw))
-
-pub loop-i-preserved : goal.loop-i-preserved
-loop-i-preserved c = (tested_part is_digit _ _ true c.loop-i.invariant.0 8 true (sym (not-false _ c.if-not-eight_digits.false-raw) ∙ c.eight_digits.ensures), omega arith)
-
-pub returns : goal.returns
-returns c = tested_last is_digit _ _ true c.loop-i.invariant.0 refl _ 8 _ (omega arith) (omega arith) c.eight_digits-2.ensures
+pub returns-else-eights_are_digits : goal.returns-else-eights_are_digits
+returns-else-eights_are_digits c =
+    let s = c.args.s.now in
+    c.if-eights_are_digits.false
+    ∙ chunks_last is_digit s _ _ 8 (length s / 8) c.as_chunks.ensures.front (omega arith) c.in-Some.ensures.cases.1.same false _
+    (sym c.if-eights_are_digits.false ∙ c.eights_are_digits.ensures) refl

@@ -1,13 +1,10 @@
--- The octets are laid over the part from the place on, if they fit. Assumes nothing.
-use native.Mathlib.Omega.{arith}
-use Rattle.octets.proofs.Overs.{laid_short, laid_there}
+-- The octets are laid over the buffer from the place on, if they fit. Assumes nothing.
+use mathlib.Core.Path.{refl}
+use Rattle.octets.proofs.Overs.{laid_not, laid_done}
 use Rattle.octets.proofs.copy_at.Goals as goal
 
-pub returns-then-buf-at : goal.returns-then-buf-at
-returns-then-buf-at c = laid_short _ _ _ (omega arith)
-
-pub returns-then-buf-at-2 : goal.returns-then-buf-at-2
-returns-then-buf-at-2 c = laid_short _ _ _ (omega arith)
+pub returns-then-not-fits : goal.returns-then-not-fits
+returns-then-not-fits c = laid_not _ _ _ _ _ refl c.fits.ensures c.if-not-fits.true
 
 pub returns : goal.returns
-returns c = laid_there _ _ _ _ (omega arith) c.copy.ensures
+returns c = laid_done _ _ _ _ _ refl c.fits.ensures c.if-not-fits.false _ c.lay_at.ensures

@@ -5,4 +5,4 @@ use Rattle.octets.proofs.Gathering.{digits_turned}
 use Rattle.octets.proofs.eight_digits.Goals as goal
 
 pub returns : goal.returns
-returns c = c.beyond.ensures ∙ ap below_ten (c.turned.ensures ∙ ap turned_of c.eight_at.ensures) ∙ digits_turned _
+returns c = c.beyond.ensures ∙ ap below_ten (c.turned.ensures ∙ ap turned_of c.number_of_eight.ensures) ∙ digits_turned _

@@ -4,5 +4,5 @@ use native.Mathlib.Omega.{arith}
 use Rattle.octets.proofs.Gathering.{gathered_long}
 use Rattle.octets.proofs.gathered.Goals as goal
 
-pub returns-then-n-gt15 : goal.returns-then-n-gt15
-returns-then-n-gt15 c = sym (gathered_long _ (omega arith))
+pub returns-in_default : goal.returns-in_default
+returns-in_default c = sym (gathered_long _ (omega arith))

@@ -1,7 +1,9 @@
 -- The octets passed are written, two digits each; an odd last digit comes behind them. Assumes nothing.
-use mathlib.Core.Path.{◌∙◌}
+use mathlib.Core.Path.{◌≡◌, ◌∙◌}
+use Prim.Native.Nat.{◌/◌}
 use native.Mathlib.Omega.{arith}
-use lib.ListN.{get_or, length-set}
+use lib.ListN.{get_or}
+use lib.Seq.{length-take-le, get_or-take}
 use Rattle.meaning.specs.Octets.{digit_text, text}
 use Rattle.octets.proofs.Overs.{overlaid_none, overlaid_all}
 use Rattle.octets.proofs.Unpacking.{unpacked_length, high_written, two_written, high_text}
@@ -10,28 +12,30 @@ use Rattle.octets.proofs.unpack_text.Goals as goal
 pub loop-i-init : goal.loop-i-init
 loop-i-init c =
     let a = c.args in
-    (overlaid_none _ _ (omega (arith, unpacked_length a.n a.s.now)), omega arith)
-
-pub bounds-buf-i-in-loop-i : goal.bounds-buf-i-in-loop-i
-bounds-buf-i-in-loop-i c = simp length-set (omega arith)
+    overlaid_none _ _ (omega (arith, unpacked_length a.n a.s.now))
 
 pub loop-i-preserved : goal.loop-i-preserved
 unfolding text
 loop-i-preserved c =
     let u = c.loop-i in
     let a = c.args in
-    let octet = c.shared_slice_known-in-loop-i-1.given u.i in
-    (two_written digit_text _ _ _ _ _ u.invariant.0 (omega arith) _ _ (omega arith) (c.digit_text.ensures ∙ high_text (get_or a.s.now u.i 0) (omega (arith, octet))) c.digit_text-in-loop-i.ensures, omega arith)
+    let size = length-take-le (a.n / 2) a.s.now (omega arith) in
+    let here = get_or-take (a.n / 2) a.s.now u.i 0 (omega arith) in
+    two_written digit_text _ _ _ _ _ u.invariant (omega arith) _ _ (omega arith)
+    ((rw here at c.digit_text.ensures) ∙ high_text (get_or a.s.now u.i 0) (omega (arith, c.type_inv.s u.i)))
+    (rw here at c.digit_text-in-loop-i.ensures)
 
-pub returns-then-i-n : goal.returns-then-i-n
+pub returns-then-pairs-n : goal.returns-then-pairs-n
 unfolding text
-returns-then-i-n c =
-    let u = c.loop-i in
+returns-then-pairs-n c =
     let a = c.args in
-    let octet = c.shared_slice_known-then-i-n-1.given u.i in
-    overlaid_all _ _ _ _ (high_written digit_text _ _ _ _ _ u.invariant.0 (omega arith) _ (omega arith) (c.digit_text-then-i-n.ensures ∙ high_text (get_or a.s.now u.i 0) (omega (arith, octet)))) (omega (arith, unpacked_length a.n a.s.now))
+    let i = a.n / 2 in
+    let size = length-take-le i a.s.now (omega arith) in
+    let end : c.loop-i.i ≡ i = omega arith in
+    overlaid_all _ _ _ _ (high_written digit_text _ _ _ _ _ (rw end at c.loop-i.invariant) (omega arith) _ (omega arith) (c.digit_text-then-pairs-n.ensures ∙ high_text (get_or a.s.now i 0) (omega (arith, c.type_inv.s i)))) (omega (arith, unpacked_length a.n a.s.now))
 
-pub returns-else-i-n : goal.returns-else-i-n
-returns-else-i-n c =
+pub returns-else-pairs-n : goal.returns-else-pairs-n
+returns-else-pairs-n c =
     let a = c.args in
-    overlaid_all _ _ _ _ c.loop-i.invariant.0 (omega (arith, unpacked_length a.n a.s.now))
+    let size = length-take-le (a.n / 2) a.s.now (omega arith) in
+    overlaid_all _ _ _ _ c.loop-i.invariant (omega (arith, unpacked_length a.n a.s.now))

@@ -10,16 +10,16 @@ returns-then-given-lt2 c =
     let a = c.args in
     (check_short _ a.given.now a.all _ [] _ _ _ (omega arith) c.put.ensures).0
 
-pub returns-in-List : goal.returns-in-List
-returns-in-List c =
+pub returns-in-Ok : goal.returns-in-Ok
+returns-in-Ok c =
     let a = c.args in
     (check_given _ a.given.now a.all 6126 _
-    (omega arith) c.wide32-kind.ensures c.wide32-flags.ensures (rest_given a.given.now) c.check.ensures
-    c.in-List.is refl c.entries.ensures).0
+    (omega arith) c.from-kind.ensures c.from-flags.ensures (rest_given a.given.now) c.check.ensures
+    c.in-Ok.is refl c.entries.ensures).0
 
-pub returns-in-Refused : goal.returns-in-Refused
-returns-in-Refused c =
+pub returns-in-Err : goal.returns-in-Err
+returns-in-Err c =
     let a = c.args in
     (check_refused _ a.given.now a.all 6126 _
-    (omega arith) c.wide32-kind.ensures c.wide32-flags.ensures (rest_given a.given.now) c.check.ensures
-    c.in-Refused.is c.put_refusal.ensures).0
+    (omega arith) c.from-kind.ensures c.from-flags.ensures (rest_given a.given.now) c.check.ensures
+    c.in-Err.is c.put_refusal.ensures).0

@@ -11,20 +11,20 @@ returns-then-given-lt2 c =
     check_short _ a.given.now a.all _ a.list.now _ _ _ (omega arith) c.put.ensures in
     record { start_laid = w.0; list_after = w.1 }
 
-pub returns-in-List : goal.returns-in-List
-returns-in-List c =
+pub returns-in-Ok : goal.returns-in-Ok
+returns-in-Ok c =
     let a = c.args in
     let w =
     check_given _ a.given.now a.all _ a.list.now
-    (omega arith) c.wide32-kind.ensures c.wide32-flags.ensures (rest_given a.given.now) c.check_within.ensures
-    c.in-List.is refl c.put_list.ensures in
+    (omega arith) c.from-kind.ensures c.from-flags.ensures (rest_given a.given.now) c.check_within.ensures
+    c.in-Ok.is refl c.put_list.ensures in
     record { start_laid = w.0; list_after = w.1 }
 
-pub returns-in-Refused : goal.returns-in-Refused
-returns-in-Refused c =
+pub returns-in-Err : goal.returns-in-Err
+returns-in-Err c =
     let a = c.args in
     let w =
     check_refused _ a.given.now a.all _ a.list.now
-    (omega arith) c.wide32-kind.ensures c.wide32-flags.ensures (rest_given a.given.now) c.check_within.ensures
-    c.in-Refused.is c.put_refusal.ensures in
+    (omega arith) c.from-kind.ensures c.from-flags.ensures (rest_given a.given.now) c.check_within.ensures
+    c.in-Err.is c.put_refusal.ensures in
     record { start_laid = w.0; list_after = w.1 }

@@ -3,6 +3,4 @@ use Rattle.printing.proofs.Pieces.{open_pieces}
 use Rattle.printing.proofs.open_line.Goals as goal
 
 pub returns : goal.returns
-returns c =
-    let a = c in
-    open_pieces _ a.nothing.ensures a.with.ensures a.with_decimal-over.ensures c.with-2.ensures
+returns c = open_pieces _ c.new.ensures c.with.ensures c.with_decimal.ensures c.with-2.ensures

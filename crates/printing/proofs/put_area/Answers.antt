@@ -1,8 +1,7 @@
 -- Kind and flags, and the area's digits behind them. Assumes nothing.
 use native.Mathlib.Omega.{arith}
-use mathlib.Core.Path.{refl, ap}
-use Rattle.lines.specs.declared.Text.{Text}
-use Rattle.lines.specs.Lines.{text_of}
+use mathlib.Core.Path.{ap}
+use lib.ListN.{length}
 use Rattle.printing.proofs.Pieces.{area_there, area_not, kind_flags_length}
 use Rattle.printing.proofs.put_area.Goals as goal
 
@@ -10,14 +9,12 @@ pub returns-then-out-area : goal.returns-then-out-area
 returns-then-out-area c = let a = c.args in area_not a.kind a.flags _ _ (omega arith)
 
 pub overflow_add-n-2 : goal.overflow_add-n-2
-unfolding text_of
-overflow_add-n-2 c = let a = c.args in omega (arith, ap (λ (t : Text). t.len) c.kind_flags-front.ensures, kind_flags_length a.kind a.flags)
+overflow_add-n-2 c = let a = c.args in omega (arith, ap length c.kind_flags-front.ensures, ap length c.as_slice-at.ensures, kind_flags_length a.kind a.flags)
 
 pub returns-then-out-n : goal.returns-then-out-n
-unfolding text_of
-returns-then-out-n c = let a = c.args in area_not a.kind a.flags _ _ (omega (arith, ap (λ (t : Text). t.len) c.kind_flags-front.ensures))
+returns-then-out-n c = let a = c.args in area_not a.kind a.flags _ _ (omega (arith, ap length c.kind_flags-front.ensures, ap length c.as_slice-at.ensures))
 
 pub returns : goal.returns
 returns c =
     let a = c.args in
-    area_there a.kind a.flags _ _ _ _ _ _ _ c.kind_flags-front.ensures refl (omega arith) c.put_text.ensures c.lay_hex.ensures
+    area_there a.kind a.flags _ _ _ _ _ _ _ _ c.kind_flags-front.ensures (ap length c.as_slice-at.ensures) (omega arith) (omega arith) c.put_text.ensures c.lay_hex.ensures

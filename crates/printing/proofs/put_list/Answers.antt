@@ -4,19 +4,19 @@ use mathlib.Core.Path.{sym, ◌∙◌}
 use Rattle.printing.proofs.Pieces.{list_none, list_not, list_there}
 use Rattle.printing.proofs.put_list.Goals as goal
 
-pub returns-then-least-eq0 : goal.returns-then-least-eq0
-returns-then-least-eq0 c =
+pub returns-then-min-eq0 : goal.returns-then-min-eq0
+returns-then-min-eq0 c =
     let k = c in
-    list_none _ _ _ _ _ (sym k.least.ensures ∙ omega arith) c.put.ensures
+    list_none _ _ _ _ _ (sym k.min.ensures ∙ omega arith) c.put.ensures
 
 pub returns-then-n-eq0 : goal.returns-then-n-eq0
 returns-then-n-eq0 c =
     let k = c in
     let a = k.args in
-    list_not a.list.now a.out.now a.count _ _ (λ e. omega (arith, k.least.ensures)) c.entries-n.ensures (omega arith)
+    list_not a.list.now a.out.now a.count _ _ (λ e. omega (arith, k.min.ensures)) c.entries-n.ensures (omega arith)
 
 pub returns : goal.returns
 returns c =
     let k = c in
     let a = k.args in
-    list_there a.list.now a.out.now a.count _ _ (λ e. omega (arith, k.least.ensures)) c.entries-n.ensures _ _ (λ e. omega arith) c.copy_at.ensures
+    list_there a.list.now a.out.now a.count _ _ (λ e. omega (arith, k.min.ensures)) c.entries-n.ensures _ _ (λ e. omega arith) c.copy_at.ensures

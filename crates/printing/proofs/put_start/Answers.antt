@@ -2,8 +2,8 @@
 use Rattle.printing.proofs.Shown.{start_open, start_refused}
 use Rattle.printing.proofs.put_start.Goals as goal
 
-pub returns-in-Open : goal.returns-in-Open
-returns-in-Open c = start_open _ _ c.judge_start.ensures c.in-Open.is c.put_text.ensures
+pub returns-in-None : goal.returns-in-None
+returns-in-None c = start_open _ _ c.judge_start.ensures c.in-None.is c.put_text.ensures
 
-pub returns-in-Refused : goal.returns-in-Refused
-returns-in-Refused c = start_refused _ _ c.judge_start.ensures c.in-Refused.is _ c.refusal.ensures c.put_text-in-Refused.ensures
+pub returns-in-Some : goal.returns-in-Some
+returns-in-Some c = start_refused _ _ c.judge_start.ensures c.in-Some.is _ c.refusal.ensures c.put_text-in-Some.ensures

@@ -8,14 +8,14 @@ returns-then-given-lt2 c =
     let a = c.args in
     (read_short _ a.given.now a.all _ a.out.now _ _ _ (omega arith) c.put.ensures).0
 
-pub returns-in-Sheet : goal.returns-in-Sheet
-returns-in-Sheet c =
+pub returns-in-Ok : goal.returns-in-Ok
+returns-in-Ok c =
     let a = c.args in
     sheet_printed a.given.now a.all _
-    (omega arith) c.wide32-kind.ensures c.wide32-flags.ensures (rest_given a.given.now) c.read.ensures c.in-Sheet.is
+    (omega arith) c.from-kind.ensures c.from-flags.ensures (rest_given a.given.now) c.read.ensures c.in-Ok.is
 
-pub returns-in-Refused : goal.returns-in-Refused
-returns-in-Refused c =
+pub returns-in-Err : goal.returns-in-Err
+returns-in-Err c =
     let a = c.args in
     refusal_printed a.given.now a.all _
-    (omega arith) c.wide32-kind.ensures c.wide32-flags.ensures (rest_given a.given.now) c.read.ensures c.in-Refused.is c.put_refusal.ensures
+    (omega arith) c.from-kind.ensures c.from-flags.ensures (rest_given a.given.now) c.read.ensures c.in-Err.is c.put_refusal.ensures

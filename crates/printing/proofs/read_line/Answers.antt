@@ -10,20 +10,20 @@ returns-then-given-lt2 c =
     read_short _ a.given.now a.all _ a.sheet.now _ _ _ (omega arith) c.put.ensures in
     record { start_laid = w.0; sheet_after = w.1 }
 
-pub returns-in-Sheet : goal.returns-in-Sheet
-returns-in-Sheet c =
+pub returns-in-Ok : goal.returns-in-Ok
+returns-in-Ok c =
     let a = c.args in
     let w =
     read_given _ a.given.now a.all _ a.sheet.now
-    (omega arith) c.wide32-kind.ensures c.wide32-flags.ensures (rest_given a.given.now) c.read_within.ensures
-    c.in-Sheet.is c.part.ensures c.put_hex.ensures in
+    (omega arith) c.from-kind.ensures c.from-flags.ensures (rest_given a.given.now) c.read_within.ensures
+    c.in-Ok.is c.part.ensures c.put_hex.ensures in
     record { start_laid = w.0; sheet_after = w.1 }
 
-pub returns-in-Refused : goal.returns-in-Refused
-returns-in-Refused c =
+pub returns-in-Err : goal.returns-in-Err
+returns-in-Err c =
     let a = c.args in
     let w =
     read_refused _ a.given.now a.all _ a.sheet.now
-    (omega arith) c.wide32-kind.ensures c.wide32-flags.ensures (rest_given a.given.now) c.read_within.ensures
-    c.in-Refused.is c.put_refusal.ensures in
+    (omega arith) c.from-kind.ensures c.from-flags.ensures (rest_given a.given.now) c.read_within.ensures
+    c.in-Err.is c.put_refusal.ensures in
     record { start_laid = w.0; sheet_after = w.1 }

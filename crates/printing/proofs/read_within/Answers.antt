@@ -9,9 +9,9 @@ use Rattle.printing.proofs.read_within.Goals as goal
 
 pub slice_bounds-read-end-2 : goal.slice_bounds-read-end-2
 slice_bounds-read-end-2 c =
-    let h : c.least-open.result ≤ length c.args.sheet.now =
-    omega (arith, c.least-open.ensures) in
+    let h : c.min-open.result ≤ length c.args.sheet.now =
+    omega (arith, c.min-open.ensures) in
     sym (length-take-le _ _ h)
 
 pub returns : goal.returns
-returns c = read_lent _ _ _ _ _ _ _ _ c.least-open.ensures c.read.ensures
+returns c = read_lent _ _ _ _ _ _ _ _ c.min-open.ensures c.read.ensures

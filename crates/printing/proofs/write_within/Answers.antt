@@ -9,9 +9,9 @@ use Rattle.printing.proofs.write_within.Goals as goal
 
 pub slice_bounds-write-end-2 : goal.slice_bounds-write-end-2
 slice_bounds-write-end-2 c =
-    let h : c.least-open.result ≤ length c.args.area.now =
-    omega (arith, c.least-open.ensures) in
+    let h : c.min-open.result ≤ length c.args.area.now =
+    omega (arith, c.min-open.ensures) in
     sym (length-take-le _ _ h)
 
 pub returns : goal.returns
-returns c = write_lent _ _ _ _ _ _ c.least-open.ensures c.write.ensures
+returns c = write_lent _ _ _ _ _ _ c.min-open.ensures c.write.ensures

@@ -5,8 +5,8 @@ use lib.ListN.{length}
 use Rattle.reading.proofs.Passes.{Passing}
 use Rattle.reading.proofs.put_items.Given as goal
 
-abbrev pub invariant-loop-number : goal.invariant-loop-number
-invariant-loop-number l = Passing l.area l.initial.buf l.buf l.place l.count l.written
+abbrev pub invariant-loop-attribute : goal.invariant-loop-attribute
+invariant-loop-attribute l = Passing l.area l.initial.buf l.buf l.place l.count l.written
 
-abbrev pub decreases-loop-number : goal.decreases-loop-number
-decreases-loop-number l = length l.area - l.place
+abbrev pub decreases-loop-attribute : goal.decreases-loop-attribute
+decreases-loop-attribute l = length l.area - l.place

@@ -1,5 +1,4 @@
 -- `reading::put_stored` meets its contract. Assumes nothing.
-use borrow.Author.Rules.{rules}
 use native.Mathlib.Omega.{arith}
 use Rattle.octets.proofs.Overs.{copied_part}
 use Rattle.reading.proofs.Laying.{put_as, put_address, digits_put, number_stored, address_stored, digits_stored, rest_stored}
@@ -16,14 +15,11 @@ returns-in-Address c =
     (put_address _ _ _ _ _ c.u32_octets-four.ensures (omega (arith, s.requires.1))
     (copied_part _ _ _ _ _ (omega arith) (omega (arith, s.requires.1)) c.copy_from_slice.ensures.after))
 
-pub enum_told-1 : goal.enum_told-1
-enum_told-1 c = search rules
-
 pub returns-in-Digits : goal.returns-in-Digits
 returns-in-Digits c =
     let s = c in
     put_as _ _ _ _ _ _ (digits_stored _ _ c.in-Digits.is)
-    (digits_put _ _ _ _ _ _ _ c.packed-eight.ensures c.least.ensures
+    (digits_put _ _ _ _ _ _ _ c.packed-eight.ensures c.min.ensures
     c.packed_len.ensures (omega (arith, s.requires.1))
     (copied_part _ _ _ _ _ (omega arith) (omega (arith, s.requires.1)) c.copy_from_slice-in-Digits.ensures.after))
 

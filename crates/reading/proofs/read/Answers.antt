@@ -1,25 +1,20 @@
 -- `reading::read` meets its contract. Assumes nothing.
+use Rattle.std.proofs.lemmas.Result.{err_from_is_err_and}
 use mathlib.Core.Path.{sym, ◌∙◌}
 use native.Mathlib.Omega.{arith}
 use Rattle.area.proofs.Arriving.{refused_first}
 use Rattle.reading.proofs.Whole.{refused_read, arrived_short}
 use Rattle.reading.proofs.read.Goals as goal
 
-pub returns-in-Refused : goal.returns-in-Refused
-returns-in-Refused c =
-    refused_read _ _ _ _ _ (refused_first _ _ _ _ c.arrive.ensures _ c.in-Refused.is)
+pub returns-in_err-arrive : goal.returns-in_err-arrive
+returns-in_err-arrive c =
+    let p = err_from_is_err_and c.from_residual.result c.from_residual.ensures.1 in
+    rw (p.1, p.2) (refused_read _ _ _ _ _ (refused_first _ _ _ _ c.arrive.ensures _ c.in_err-arrive.was))
 
-pub conclude-requires : goal.conclude-requires
-conclude-requires c =
-    let p = c in
-    let i = p in
-    record { fit = (sym i.arrive.ensures ∙ i.in-Fit.is); says = p.put_items-tally.ensures; room = omega (arith, i.if-area-le-SHORT_AREA.true, p.put_items-tally.auto.buf) }
+pub read_by-requires : goal.read_by-requires
+read_by-requires c = (sym c.arrive.ensures ∙ c.in_ok-arrive.was, omega arith, omega arith)
 
-pub put_items-tally-requires-in-Fit : goal.put_items-tally-requires-in-Fit
-put_items-tally-requires-in-Fit c = let k = c in omega (arith, arrived_short _ _ k.args.area.now (sym k.arrive.ensures ∙ k.in-Fit.is))
-
-pub conclude-requires-in-Fit : goal.conclude-requires-in-Fit
-conclude-requires-in-Fit c =
-    let p = c in
-    let k = p in
-    record { fit = (sym k.arrive.ensures ∙ k.in-Fit.is); says = p.put_items-tally-in-Fit.ensures; room = omega (arith, arrived_short _ _ k.args.area.now (sym k.arrive.ensures ∙ k.in-Fit.is), p.put_items-tally-in-Fit.auto.buf) }
+pub read_by-requires-2 : goal.read_by-requires-2
+read_by-requires-2 c =
+    let fit = sym c.arrive.ensures ∙ c.in_ok-arrive.was in
+    (fit, omega (arith, arrived_short _ _ c.args.area.now fit), omega arith)

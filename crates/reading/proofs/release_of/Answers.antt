@@ -2,4 +2,4 @@
 use Rattle.reading.proofs.release_of.Goals as goal
 
 pub returns : goal.returns
-returns c = let a = c.wide-tens.ensures in let b = c.wide-ones.ensures in cc
+returns c = let a = c.from-tens.ensures in let b = c.from-ones.ensures in cc

@@ -1,21 +1,17 @@
 -- The front, then the items, by a buffer with room for one attribute. Assumes nothing.
+use Rattle.std.proofs.lemmas.Result.{err_from_is_err_and}
+use mathlib.Core.Path.{sym, ◌∙◌}
 use native.Mathlib.Omega.{arith}
-use Rattle.writing.proofs.Whole.{judged_front, judged_refused, front_nine, judged_on}
+use Rattle.writing.proofs.Whole.{judged_front, judged_refused}
 use Rattle.writing.proofs.judge.Goals as goal
 
-pub returns-in-Refused : goal.returns-in-Refused
-returns-in-Refused c = judged_refused _ _ (judged_front _ _ c.front_of.ensures _ c.in-Refused.is)
+pub returns-in_err-front_of : goal.returns-in_err-front_of
+returns-in_err-front_of c =
+    let p = err_from_is_err_and c.from_residual.result c.from_residual.ensures.1 in
+    rw (p.1, p.2) (judged_refused _ _ (judged_front _ _ c.front_of.ensures _ c.in_err-front_of.was))
 
-pub transcribe-requires : goal.transcribe-requires
-transcribe-requires c =
-    let k = c in
-    (front_nine _ _ k.front_of.ensures k.in-Fit.is, omega arith)
+pub make-requires : goal.make-requires
+make-requires c = (sym c.front_of.ensures ∙ c.in_ok-front_of.was, omega arith)
 
-pub ended-requires : goal.ended-requires
-ended-requires c = let k = c in front_nine _ _ k.front_of.ensures k.in-Fit.is
-
-pub returns-in-Fit : goal.returns-in-Fit
-returns-in-Fit c =
-    let t = c in
-    let k = t in
-    judged_on _ _ k.front_of.ensures k.in-Fit.is _ _ t.transcribe.ensures _ c.ended.ensures
+pub returns : goal.returns
+returns c = c.make.ensures.says

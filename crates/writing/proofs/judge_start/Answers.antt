@@ -1,13 +1,15 @@
 -- By what the kept octets are judged. Assumes nothing.
+use mathlib.Core.Path.{ap}
+use Rattle.std.specs.Prelude.{Some}
 use Rattle.writing.proofs.Starts.{judged_writable, judged_refusal, start_is}
 use Rattle.writing.proofs.judge_start.Goals as goal
 
-pub returns-in-Writable : goal.returns-in-Writable
-returns-in-Writable c =
+pub returns-in-Ok : goal.returns-in-Ok
+returns-in-Ok c =
     let k = c in
-    start_is _ _ (judged_writable _ _ k.judge.ensures k.in-Writable.is) c.remaining.ensures
+    start_is _ _ (judged_writable _ _ k.judge.ensures k.in-Ok.is) (ap Some c.broken.ensures)
 
-pub returns-in-Refused : goal.returns-in-Refused
-returns-in-Refused c =
+pub returns-in-Err : goal.returns-in-Err
+returns-in-Err c =
     let k = c in
-    start_is _ _ (judged_refusal _ _ k.judge.ensures k.in-Refused.is) c.start_by.ensures
+    start_is _ _ (judged_refusal _ _ k.judge.ensures k.in-Err.is) c.start_by.ensures

@@ -1,6 +1,7 @@
 -- The pass over the items. Assumes nothing.
-use mathlib.Core.Path.{refl, sym, ap, ◌∙◌}
-use Prim.Native.Nat.{ℕ, ◌-◌, min}
+use Rattle.std.proofs.lemmas.Result.{err_from_is_err_and}
+use mathlib.Core.Path.{◌≡◌, refl, sym, ap, ◌∙◌}
+use Prim.Native.Nat.{ℕ, ◌+◌, ◌-◌, min}
 use native.Mathlib.Omega.{arith}
 use Rattle.octets.proofs.Parts.{slice_octets}
 use Rattle.writing.proofs.Entries.{size_is, size_within, behind_head, behind_within, carried_low, attributed_here}
@@ -11,81 +12,77 @@ use Rattle.writing.proofs.transcribe.Goals as goal
 pub overflow_sub-last : goal.overflow_sub-last
 overflow_sub-last c = omega (arith, c.requires.1)
 
-pub loop-left-init : goal.loop-left-init
-loop-left-init c = let l = c.args.sheet.now in
-    (transcribing_none l _ _ (slice_octets l c.shared_slice_known-1.given) c.u16_at-left.ensures, refl)
+pub loop-item-init : goal.loop-item-init
+loop-item-init c =
+    let all : c.u16_at-count.result - 0 ≡ c.u16_at-count.result = omega arith in
+    (transcribing_none c.args.sheet.now _ _ (slice_octets _ c.type_inv.sheet) (all ∙ c.u16_at-count.ensures), refl)
+
+pub returns-in_err-head : goal.returns-in_err-head
+returns-in_err-head c =
+    let p = err_from_is_err_and c.from_residual.result c.from_residual.ensures.1 in
+    rw (p.1, p.2)
+    (transcribing_refused _ _ _ _ _ c.loop-item.invariant.0 (omega (arith, c.loop-item-test.true)) (slice_octets _ c.type_inv.sheet) _ c.head_at.ensures _ _ c.in_err-head.was)
 
 pub overflow_add-behind : goal.overflow_add-behind
-overflow_add-behind c = let k = c in omega (arith, (behind_head _ _ (slice_octets k.args.sheet.now k.shared_slice_known-1.given) _ k.head_at.ensures _ _ _ _ k.in-Item.is), (behind_within _ _ (slice_octets k.args.sheet.now k.shared_slice_known-1.given) _ k.head_at.ensures _ _ _ _ k.in-Item.is), k.well_formed)
+overflow_add-behind c =
+    let o = slice_octets c.args.sheet.now c.type_inv.sheet in
+    omega (arith, behind_head _ _ o _ c.head_at.ensures _ c.in_ok-head.was, behind_within _ _ o _ c.head_at.ensures _ c.in_ok-head.was, c.well_formed)
 
 pub slice_bounds-rest-count : goal.slice_bounds-rest-count
-slice_bounds-rest-count c = omega (arith, (behind_head _ _ (slice_octets c.args.sheet.now c.shared_slice_known-1.given) _ c.head_at.ensures _ _ _ _ c.in-Item.is), (behind_within _ _ (slice_octets c.args.sheet.now c.shared_slice_known-1.given) _ c.head_at.ensures _ _ _ _ c.in-Item.is))
-
-pub overflow_sub-size : goal.overflow_sub-size
-overflow_sub-size c = omega (arith, (behind_head _ _ (slice_octets c.args.sheet.now c.shared_slice_known-1.given) _ c.head_at.ensures _ _ _ _ c.in-Item.is))
-
-pub put_attribute-requires : goal.put_attribute-requires
-put_attribute-requires c = let k = c in
-    let m = c.least-at.ensures in
-    (carried_low _ _ (slice_octets k.args.sheet.now k.shared_slice_known-1.given) _ k.head_at.ensures _ _ _ _ k.in-Item.is, (size_is _ _ (slice_octets k.args.sheet.now k.shared_slice_known-1.given) _ k.head_at.ensures _ _ _ _ k.in-Item.is, (size_within _ _ (slice_octets k.args.sheet.now k.shared_slice_known-1.given) _ k.head_at.ensures _ _ _ _ k.in-Item.is, omega (arith, k.loop-left.invariant.1, k.requires.1, m))))
-
-pub shape_of-buf-in_default : goal.shape_of-buf-in_default
-shape_of-buf-in_default c = let d = c in d.put_attribute.auto.buf ∙ d.loop-left.invariant.1
-
-pub returns-in_default : goal.returns-in_default
-returns-in_default c = let d = c in
-    let k = d in
-    rw c.broken.ensures
-    (transcribing_23 _ _ _ _ _ k.loop-left.invariant.0 (omega (arith, k.loop-left-test.true)) (slice_octets k.args.sheet.now k.shared_slice_known-1.given) _ k.head_at.ensures _ _ _ _ k.in-Item.is _ _ _ (attributed_here _ _ (slice_octets d.args.sheet.now d.shared_slice_known-1.given) _ d.head_at.ensures _ _ _ _ d.in-Item.is _ _ _ _ d.put_attribute.ensures)
-    c.in_default.is)
-
-pub overflow_add-written : goal.overflow_add-written
-overflow_add-written c = let d = c in
-    let k = d in
-    let i = k.loop-left.invariant.0 in
-    omega
-    (arith, put_short _ _ _ _ _ i (omega (arith, k.loop-left-test.true)) (slice_octets k.args.sheet.now k.shared_slice_known-1.given) _ k.head_at.ensures _ _ _ _ k.in-Item.is _ _ _ (attributed_here _ _ (slice_octets d.args.sheet.now d.shared_slice_known-1.given) _ d.head_at.ensures _ _ _ _ d.in-Item.is _ _ _ _ d.put_attribute.ensures) _ c.in-Octets.is, i.few)
-
-pub overflow_sub-left : goal.overflow_sub-left
-overflow_sub-left c = omega (arith, c.loop-left-test.true)
-
-pub loop-left-smaller : goal.loop-left-smaller
-loop-left-smaller c = omega (arith, c.loop-left-test.true)
-
-pub loop-left-preserved : goal.loop-left-preserved
-loop-left-preserved c = let d = c in
-    let k = d in (
-      transcribing_more _ _ _ _ _ k.loop-left.invariant.0 (omega (arith, k.loop-left-test.true)) (slice_octets k.args.sheet.now k.shared_slice_known-1.given) _ k.head_at.ensures _ _ _ _ k.in-Item.is _ _ _ (attributed_here _ _ (slice_octets d.args.sheet.now d.shared_slice_known-1.given) _ d.head_at.ensures _ _ _ _ d.in-Item.is _ _ _ _ d.put_attribute.ensures) _
-          c.in-Octets.is (omega (arith, k.loop-left.invariant.1, k.requires.1))
-          (d.least-at.ensures
-          ∙ ap (λ (n : ℕ). min k.loop-left.written (n - 263)) (sym k.loop-left.invariant.1)),
-      d.put_attribute.auto.buf ∙ k.loop-left.invariant.1,
-    )
-
-pub shape_of-buf-in-Refused : goal.shape_of-buf-in-Refused
-shape_of-buf-in-Refused c = c.loop-left.invariant.1
-
-pub returns-in-Refused : goal.returns-in-Refused
-returns-in-Refused c = let l = c.args.sheet.now in
-    transcribing_refused _ _ _ _ _ c.loop-left.invariant.0 (omega (arith, c.loop-left-test.true)) (slice_octets l c.shared_slice_known-1.given) _ c.head_at.ensures _ _ c.in-Refused.is
-
-pub shape_of-buf-then-place-sheet : goal.shape_of-buf-then-place-sheet
-shape_of-buf-then-place-sheet c = c.loop-left.invariant.1
-
-pub returns-then-place-sheet : goal.returns-then-place-sheet
-returns-then-place-sheet c =
-    let k = c in
-    rw c.broken-then-place-sheet.ensures
-    (transcribing_22 _ _ _ _ _ k.loop-left.invariant.0 (omega (arith, k.loop-left-test.false)) c.if-place-sheet.true)
-
-pub shape_of-buf : goal.shape_of-buf
-shape_of-buf c = c.loop-left.invariant.1
-
-pub returns : goal.returns
-returns c =
-    transcribing_all _ _ _ _ _ c.loop-left.invariant.0 (omega (arith, c.loop-left-test.false)) (omega (arith, c.if-place-sheet.false))
+slice_bounds-rest-count c =
+    let o = slice_octets c.args.sheet.now c.type_inv.sheet in
+    omega (arith, behind_head _ _ o _ c.head_at.ensures _ c.in_ok-head.was, behind_within _ _ o _ c.head_at.ensures _ c.in_ok-head.was)
 
 pub slice_bounds-rest-start : goal.slice_bounds-rest-start
 slice_bounds-rest-start c =
-    let o = slice_octets c.args.sheet.now c.shared_slice_known-1.given in
-    omega (arith, behind_head _ _ o _ c.head_at.ensures _ _ _ _ c.in-Item.is, behind_within _ _ o _ c.head_at.ensures _ _ _ _ c.in-Item.is)
+    let o = slice_octets c.args.sheet.now c.type_inv.sheet in
+    omega (arith, behind_head _ _ o _ c.head_at.ensures _ c.in_ok-head.was, behind_within _ _ o _ c.head_at.ensures _ c.in_ok-head.was)
+
+pub overflow_sub-size : goal.overflow_sub-size
+overflow_sub-size c = behind_head _ _ (slice_octets c.args.sheet.now c.type_inv.sheet) _ c.head_at.ensures _ c.in_ok-head.was
+
+pub put_attribute-requires : goal.put_attribute-requires
+put_attribute-requires c =
+    let o = slice_octets c.args.sheet.now c.type_inv.sheet in
+    (carried_low _ _ o _ c.head_at.ensures _ c.in_ok-head.was, (size_is _ _ o _ c.head_at.ensures _ c.in_ok-head.was, (size_within _ _ o _ c.head_at.ensures _ c.in_ok-head.was, omega (arith, c.loop-item.invariant.1, c.requires.1, c.min-at.ensures))))
+
+pub shape_of-buf-in_default : goal.shape_of-buf-in_default
+shape_of-buf-in_default c = c.put_attribute.auto.buf ∙ c.loop-item.invariant.1
+
+pub returns-in_default : goal.returns-in_default
+returns-in_default c =
+    let o = slice_octets c.args.sheet.now c.type_inv.sheet in
+    rw c.broken.ensures
+    (transcribing_23 _ _ _ _ _ c.loop-item.invariant.0 (omega (arith, c.loop-item-test.true)) o _ c.head_at.ensures _ c.in_ok-head.was _ _ _ (attributed_here _ _ o _ c.head_at.ensures _ c.in_ok-head.was _ _ _ _ c.put_attribute.ensures)
+    c.in_default.is)
+
+pub overflow_add-written : goal.overflow_add-written
+overflow_add-written c =
+    let o = slice_octets c.args.sheet.now c.type_inv.sheet in
+    let i = c.loop-item.invariant.0 in
+    omega
+    (arith, put_short _ _ _ _ _ i (omega (arith, c.loop-item-test.true)) o _ c.head_at.ensures _ c.in_ok-head.was _ _ _ (attributed_here _ _ o _ c.head_at.ensures _ c.in_ok-head.was _ _ _ _ c.put_attribute.ensures) _ c.in-Some.is, i.few, c.loop-item-test.true)
+
+pub loop-item-preserved : goal.loop-item-preserved
+loop-item-preserved c =
+    let o = slice_octets c.args.sheet.now c.type_inv.sheet in
+    let one : c.u16_at-count.result - c.loop-item._item - 1 ≡ c.u16_at-count.result - (c.loop-item._item + 1) = omega arith in
+    let on = transcribing_more _ _ _ _ _ c.loop-item.invariant.0 (omega (arith, c.loop-item-test.true)) o _ c.head_at.ensures _ c.in_ok-head.was _ _ _ (attributed_here _ _ o _ c.head_at.ensures _ c.in_ok-head.was _ _ _ _ c.put_attribute.ensures) _
+    c.in-Some.is (omega (arith, c.loop-item.invariant.1, c.requires.1))
+    (c.min-at.ensures ∙ ap (λ (n : ℕ). min c.loop-item.written (n - 263)) (sym c.loop-item.invariant.1)) in
+    (rw one at on, c.put_attribute.auto.buf ∙ c.loop-item.invariant.1)
+
+pub shape_of-buf-then-place-sheet : goal.shape_of-buf-then-place-sheet
+shape_of-buf-then-place-sheet c = c.loop-item.invariant.1
+
+pub returns-then-place-sheet : goal.returns-then-place-sheet
+returns-then-place-sheet c =
+    rw c.broken-then-place-sheet.ensures
+    (transcribing_22 _ _ _ _ _ c.loop-item.invariant.0 (omega (arith, c.loop-item-test.false)) c.if-place-sheet.true)
+
+pub shape_of-buf : goal.shape_of-buf
+shape_of-buf c = c.loop-item.invariant.1
+
+pub returns : goal.returns
+returns c =
+    transcribing_all _ _ _ _ _ c.loop-item.invariant.0 (omega (arith, c.loop-item-test.false)) (omega (arith, c.if-place-sheet.false))

@@ -1,57 +1,40 @@
--- The front; then what the items are judged by the short buffer or by the long one is handed over. Assumes nothing.
+-- The front; then the area, made in the short buffer or in the long one, is handed over. Assumes nothing.
+use Rattle.std.proofs.lemmas.Result.{err_from_is_err_and}
+use mathlib.Core.Path.{sym, ap, ◌∙◌}
 use native.Mathlib.Omega.{arith}
-use Rattle.writing.proofs.Whole.{judged_front, refused_wrote, front_nine, judged_on, size_short, written}
+use Rattle.writing.proofs.Whole.{judged_front, refused_wrote, size_short, written, made_refused}
 use Rattle.writing.proofs.write.Goals as goal
 
-pub returns-in-Refused : goal.returns-in-Refused
-returns-in-Refused c = refused_wrote _ _ _ (judged_front _ _ c.front_of.ensures _ c.in-Refused.is)
+pub returns-in_err-front_of : goal.returns-in_err-front_of
+returns-in_err-front_of c =
+    let p = err_from_is_err_and c.from_residual.result c.from_residual.ensures.1 in
+    rw (p.1, p.2) (refused_wrote _ _ _ (judged_front _ _ c.front_of.ensures _ c.in_err-front_of.was))
 
-pub transcribe-requires : goal.transcribe-requires
-transcribe-requires c =
-    let k = c in
-    (front_nine _ _ k.front_of.ensures k.in-Fit.is, omega arith)
+pub make-requires : goal.make-requires
+make-requires c = (sym c.front_of.ensures ∙ c.in_ok-front_of.was, omega arith)
 
-pub ended-said-requires : goal.ended-said-requires
-ended-said-requires c =
-    let k = c in
-    front_nine _ _ k.front_of.ensures k.in-Fit.is
+pub returns-in_err-written : goal.returns-in_err-written
+returns-in_err-written c =
+    let p = err_from_is_err_and c.from_residual-in_err-written.result c.from_residual-in_err-written.ensures.1 in
+    rw (p.1, p.2) (made_refused _ _ _ _ c.make.ensures _ c.in_err-written.was)
 
-pub returns-then-size_of-le-SHORT_AREA : goal.returns-then-size_of-le-SHORT_AREA
-returns-then-size_of-le-SHORT_AREA c =
-    let i = c in
-    let e = i in
-    let t = e in
-    let k = t in
-    let j =
-    judged_on _ _ k.front_of.ensures k.in-Fit.is _ _ t.transcribe.ensures _ e.ended-said.ensures in
-    written _ _ _ _ t.transcribe.ensures _ j (omega (arith, i.size_of.ensures, i.if-size_of-le-SHORT_AREA.true, t.transcribe.auto.buf)) _ _
-    c.hand_over.ensures
+pub returns-then-written-le-SHORT_AREA : goal.returns-then-written-le-SHORT_AREA
+returns-then-written-le-SHORT_AREA c =
+    written _ _ _ _ c.make.ensures _ c.in_ok-written.was (omega (arith, c.if-written-le-SHORT_AREA.true, c.make.auto.buf)) _ _ c.hand_over.ensures
 
-pub transcribe-requires-in-Fit : goal.transcribe-requires-in-Fit
-transcribe-requires-in-Fit c =
-    let k = c in
-    (front_nine _ _ k.front_of.ensures k.in-Fit.is, omega arith)
+pub make-requires-2 : goal.make-requires-2
+make-requires-2 c = (sym c.front_of.ensures ∙ c.in_ok-front_of.was, omega arith)
 
-pub ended-said-requires-in-Fit : goal.ended-said-requires-in-Fit
-ended-said-requires-in-Fit c =
-    let k = c in
-    front_nine _ _ k.front_of.ensures k.in-Fit.is
+pub returns-in_err-written-2 : goal.returns-in_err-written-2
+returns-in_err-written-2 c =
+    let p = err_from_is_err_and c.from_residual-in_err-written-2.result c.from_residual-in_err-written-2.ensures.1 in
+    rw (p.1, p.2) (made_refused _ _ _ _ c.make-2.ensures _ c.in_err-written-2.was)
 
-pub hand_over-requires-in-Fit : goal.hand_over-requires-in-Fit
-hand_over-requires-in-Fit c =
-    let e = c in
-    let t = e in
-    let k = t in
-    let j =
-    judged_on _ _ k.front_of.ensures k.in-Fit.is _ _ t.transcribe-in-Fit.ensures _ e.ended-said-in-Fit.ensures in
-    omega (arith, size_short _ _ j, t.transcribe-in-Fit.auto.buf)
+pub hand_over-requires-2 : goal.hand_over-requires-2
+hand_over-requires-2 c =
+    omega (arith, size_short _ _ (sym c.in_ok-written-2.was ∙ c.make-2.ensures.says), c.make-2.auto.buf)
 
-pub returns-in-Fit : goal.returns-in-Fit
-returns-in-Fit c =
-    let e = c in
-    let t = e in
-    let k = t in
-    let j =
-    judged_on _ _ k.front_of.ensures k.in-Fit.is _ _ t.transcribe-in-Fit.ensures _ e.ended-said-in-Fit.ensures in
-    written _ _ _ _ t.transcribe-in-Fit.ensures _ j (omega (arith, size_short _ _ j, t.transcribe-in-Fit.auto.buf)) _ _
-    c.hand_over-in-Fit.ensures
+pub returns : goal.returns
+returns c =
+    written _ _ _ _ c.make-2.ensures _ c.in_ok-written-2.was
+    (omega (arith, size_short _ _ (sym c.in_ok-written-2.was ∙ c.make-2.ensures.says), c.make-2.auto.buf)) _ _ c.hand_over-2.ensures
