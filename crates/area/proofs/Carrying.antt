@@ -14,7 +14,6 @@ use Rattle.meaning.specs.Framing.{found_at}
 use Rattle.meaning.proofs.Octets.{octets_drop}
 use Rattle.octets.specs.Parts.{part_of}
 use Rattle.area.specs.Answers.{Step, step_of, number_at, carried_as, carried_at}
-use Rattle.area.specs.declared.Part.{Part}
 use Rattle.std.specs.Prelude.{Option, Some, Ok}
 use Rattle.area.specs.declared.Carried.{Carried}
 use Rattle.area.proofs.Steps.{AttributeAt, step_attribute}

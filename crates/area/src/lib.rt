@@ -10,7 +10,8 @@ ghost use Rattle.area.specs.Answers.{step_of, number_at, carried_at, arrival_of}
 // "vendor 10415"
 pub const VENDOR_3GPP: u32 = 10415;
 
-// A refusal of the book: its number and its second number.
+// A refusal of the book: its number and its second number. A number and no enum, since `Refuses` (crates/desk/specs/Calls) speaks of every
+// number that there is, and callers in C and the programs' lines get it.
 #[derive(Clone, Copy, PartialEq, Eq)]
 pub struct Refusal {
     pub number: u32,
@@ -161,7 +162,8 @@ fn rest(size: usize, head: usize) -> usize
     if size < head { 0 } else { size - head }
 }
 
-// What an area that is known to be well framed carries at a place, with none of the tests of `step_at`; nothing at its end.
+// What an area that is known to be well framed carries at a place, with none of the tests of `step_at`; nothing at its end: a `Carried` of
+// no octets and no Option, since the search that asks never comes to the end, and would take it apart at each turn.
 pub fn carried_at(area: &[u8], place: usize) -> Carried
     ensures { result ≡ carried_at area.now place }
 {
@@ -189,7 +191,8 @@ pub fn carried_at(area: &[u8], place: usize) -> Carried
     }
 }
 
-// Whether a number is one of the six kinds of message.
+// Whether a number is one of the six kinds of message. Kind and flags stay the numbers that a caller hands over: each entry promises an
+// answer for every one of them, and refuses by 1 or 2.
 pub fn is_kind(kind: u32) -> bool
     ensures { result ≡ is_kind kind }
 {

@@ -114,7 +114,9 @@ fn entry_of(place: usize, rule: u32, number: u16) -> u32
     (place as u32) * 1048576 + (rule * 65536 + (6656 + (n - 256)))
 }
 
-// Lays an entry into the list from `at` on, if it stands, and says where the next goes; one that the list has no room for is counted.
+// Lays an entry into the list from `at` on, if it stands, and says where the next goes; one that the list has no room for is counted. The
+// rule is the number that stands in the entry. List and place go apart, as the demands on a lent buffer speak of it: what was there, and
+// what is there after.
 fn put(list: &mut [u32], at: usize, stands: bool, place: usize, rule: u32, number: u16) -> usize
     requires { (at < most_entries) × (place ≤ 4076) × (rule < 8) × (number < 512) }
     ensures { LaysOne stands (entry place rule number) list.old at result list.new }
@@ -244,7 +246,8 @@ impl Message {
     }
 
     // Lays what the attributes of an area break, from the left, and notes the numbers seen. Rule 3, "an earlier attribute": a walk from
-    // the area's start, left at the first equal number; a number that was not seen is not searched for.
+    // the area's start, left at the first equal number; a number that was not seen is not searched for. The
+    // search is written out and left by its label: that form is asked for by name.
     fn along(&self, area: &[u8], seen: &mut [bool; 512], list: &mut [u32]) -> Result<usize, Refusal>
         requires { length area.now ≤ 4076 × Notes seen.old [] }
         ensures { AlongSays (comes self.now.kind self.now.flags) area.now list.old result list.new seen.new }

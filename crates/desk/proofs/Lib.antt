@@ -1,4 +1,3 @@
-pub mod Faces
 pub mod Calling
 pub mod Demands
 pub mod Idle

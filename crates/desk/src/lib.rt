@@ -20,8 +20,9 @@ pub const LONGEST_LIST: usize = 6126;
 pub use area::Refusal;
 pub use writing::Written;
 
-// An answer for callers in C and Rust: `refused` is 0 where the job was done, with the octets or entries written as `length`, and 1
-// where it was refused, with the book's number and second number; `kind` and `flags` are a written sheet's. The rest is 0.
+// An answer for callers in C and Rust, a struct of numbers as C has them: `refused` is 0 where the job was done, with the octets or
+// entries written as `length`, and 1 where it was refused, with the book's number and second number; `kind` and `flags` are a written
+// sheet's. The rest is 0.
 #[repr(C)]
 #[derive(Clone, Copy)]
 pub struct Answer {

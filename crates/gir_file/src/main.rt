@@ -489,7 +489,8 @@ impl Filing<'_> {
         }
     }
 
-    // Files the sheet, step by step, and tells the answer.
+    // Files the sheet, step by step, and tells the answer. The steps are data, which `filing` proves what it does of, and `perform` has an
+    // arm for each; the loop runs by `filing::steps_left`, which falls (`left_falls`).
     fn run(mut self) -> Said {
         let mut step = Step::Take;
         while filing::steps_left(step) > 0 {

@@ -2,7 +2,7 @@
 use mathlib.Core.Path.{◌≡◌, refl, sym, ap, ◌∙◌}
 use mathlib.Core.Bool.{Bool, true, false, cond, not, ◌&&◌, and-false}
 use mathlib.Core.List.{List}
-use Prim.Native.Nat.{ℕ, ◌+◌, ◌-◌, ◌<◌, ◌≤◌}
+use Prim.Native.Nat.{ℕ, ◌-◌, ◌<◌, ◌≤◌}
 use native.Mathlib.Omega.{arith}
 use lib.Dec.{eqb, leb, ltb}
 use borrow.Author.Tests.{lt-ltb, le-ltb, le-leb, lt-leb, eq-eqb, ne_eqb, eqb-true, eqb-false, ltb-true, ltb-false}
@@ -52,12 +52,6 @@ module _ (n : ℕ) (v : List ℕ) where
 module _ (t s f : ℕ) where
   pub number_plain : (t ≡ 26 → ⊥) → t ≡ number_in t s f
   number_plain h = rw (ne_eqb t 26 h)
-
-  pub number_vendor : t ≡ 26 → f ≡ 0 → 26 ≡ number_in t s f
-  number_vendor e g = rw (e, g)
-
-  pub number_3gpp : t ≡ 26 → (f ≡ 0 → ⊥) → 256 + s ≡ number_in t s f
-  number_3gpp e g = rw (e, ne_eqb f 0 g)
 
 -- ---- Forms 0 and 1
 

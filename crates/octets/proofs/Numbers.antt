@@ -9,10 +9,9 @@ use lib.ListN.{length, take, get_or}
 use lib.Seq.{take-suc, take-length}
 use Rattle.std.specs.Int.{w32, bytes_high_first, from_be_bytes}
 use Rattle.std.proofs.lemmas.Nat.{be_bytes_4}
-use Rattle.meaning.specs.Octets.{Octets, number_of, octets_of}
-use Rattle.meaning.proofs.Numbers.{number_snoc, number_back, octets_back}
-use Rattle.octets.specs.Parts.{part_of, Numbered}
-use Rattle.octets.proofs.Parts.{part_within, part_octets}
+use Rattle.meaning.specs.Octets.{number_of, octets_of}
+use Rattle.meaning.proofs.Numbers.{number_snoc, number_back}
+use Rattle.octets.specs.Parts.{Numbered}
 
 -- ---- Reading
 
@@ -47,10 +46,6 @@ module _ (s : List ℕ) (i n : ℕ) (u : Summed s i n) where
   summed_all h =
       let e : i ≡ length s = omega (arith, u.within) in
       record { is = u.is ∙ rw (e, take-length s); fits = rw e at u.fits }
-
--- the octets of a part's number are the part
-pub part_back : (l : List ℕ) (at w r : ℕ) → Octets l → at + w ≤ length l → r ≡ number_of (part_of l at w) → octets_of w r ≡ part_of l at w
-part_back l at w r o h e = ap (octets_of w) e ∙ rw (part_within l at w h) at (octets_back (part_of l at w) (part_octets l at w o))
 
 -- ---- Laying out
 

@@ -3,7 +3,7 @@ use mathlib.Core.Path.{◌≡◌, refl, sym, ap, ◌∙◌}
 use mathlib.Core.Bool.{Bool, true, false, cond}
 use mathlib.Core.List.{List, [], ◌∷◌, ◌++◌, append_assoc, append-nil}
 use Prim.Native.Nat.{ℕ, zero, suc, ◌+◌, ◌-◌, ◌<◌, ◌≤◌}
-use native.Mathlib.Nat.{add-zero, add-sub_cancel_left}
+use native.Mathlib.Nat.{add-zero}
 use native.Mathlib.Numerals.{add-one}
 use native.Mathlib.Omega.{arith}
 use borrow.Author.Tests.{le-leb, lt-leb, leb-true, leb-false}
@@ -103,10 +103,6 @@ overlaid_end s d out out' i w e = e ∙ ap (over s) w.is ∙ over_again s (take 
 
 -- ---- From a place on
 
--- whether n octets fit, told by the room that is left from the place on
-pub room_none : (at n room : ℕ) → room < at → false ≡ leb (at + n) room
-room_none at n room h = sym (lt-leb (at + n) room (omega arith))
-
 pub room_left : (at n room : ℕ) → at ≤ room → leb n (room - at) ≡ leb (at + n) room
 room_left at n room h = go (leb n (room - at)) refl
   where
@@ -146,21 +142,6 @@ laid_length at s d = go (fits_at at s d) refl
 -- At the start it is `over`.
 pub laid_first : (s d : List ℕ) → length s ≤ length d → laid_at 0 s d ≡ over s d
 laid_first s d h = laid_fits 0 s d (omega arith)
-
--- As long as the buffer, they are all that it holds.
-pub laid_whole : (s d : List ℕ) → length s ≡ length d → laid_at 0 s d ≡ s
-unfolding over
-laid_whole s d e =
-    laid_first s d (omega arith) ∙ ap (λ (r : List ℕ). s ++ r) (drop_of_length-le d {i = length s} (omega arith)) ∙ append-nil s
-
--- So is a part of a slice, taken from a place to another, in an array of its length.
-pub laid_part_whole : (l d out : List ℕ) (at n : ℕ) → at + n ≤ length l → length d ≡ n → out ≡ laid_at 0 (take (at + n - at) (drop at l)) d
-    → out ≡ part_of l at n
-unfolding part_of
-laid_part_whole l d out at n h e q =
-    let part : take (at + n - at) (drop at l) ≡ take n (drop at l) = rw (add-sub_cancel_left at n) in
-    let size : length (take n (drop at l)) ≡ n = length-take-le n (drop at l) (omega (arith, length-drop at l)) in
-    q ∙ ap (λ (s : List ℕ). laid_at 0 s d) part ∙ laid_whole (take n (drop at l)) d (omega arith)
 
 -- Laid right behind what a buffer holds already, both stand there, one behind the other.
 pub laid_behind : (s t d held : List ℕ) (at : ℕ) → length s ≡ at → held ≡ over s d → at + length t ≤ length d
@@ -249,19 +230,6 @@ laid_two at n s t d size fits =
     ∙ ap (λ (k : ℕ). front ++ ((s ++ t) ++ drop k (drop at d))) (sym (length-append s t))
     ∙ sym (laid_fits at (s ++ t) d (omega arith)))
 
--- So do two parts of s, as one part.
-pub laid_parts : (at n m : ℕ) (s d k l held out : List ℕ) → n + m ≤ length s → at + (n + m) ≤ length d → k ≡ part_of s 0 n → l ≡ part_of s n m
-    → held ≡ laid_at at k d → out ≡ laid_at (at + n) l held → Laid at (part_of s 0 (n + m)) d true out
-unfolding part_of
-laid_parts at n m s d k l held out h room ek el eh eo =
-    let size : length (take (n + m) s) ≡ n + m = length-take-le (n + m) s h in
-    record {
-      says = sym (room_fits at (take (n + m) s) d (omega arith));
-      holds =
-          eo ∙ rw (eh, ek, el) (laid_two at n (take n s) (take m (drop n s)) d (length-take-le n s (omega arith)) (simp (length-take, length-drop) (omega arith)))
-          ∙ ap (λ (r : List ℕ). laid_at at r d) (sym (take-add n m s));
-    }
-
 -- what is laid, by another name
 pub laid_as : (at : ℕ) (s t d out : List ℕ) → t ≡ s → out ≡ laid_at at s d → out ≡ laid_at at t d
 laid_as at s t d out e h = h ∙ rw e
@@ -299,10 +267,6 @@ module _ (at : ℕ) (s d : List ℕ) (n : ℕ) (fit : Bool) (size : n ≡ length
         says = sym e ∙ fit_is;
         holds = ap (λ (r : List ℕ). take at d ++ r) (ap (λ (r : List ℕ). p ++ r) none ∙ append-nil p ∙ q ∙ ap (over s) all) ∙ sym (laid_fits at s d (omega arith));
       }
-
--- The same of a writer that tests the room itself.
-pub laid_short : (at : ℕ) (s d : List ℕ) → length d < at + length s → Laid at s d false d
-laid_short at s d h = laid_not at s d (length s) _ refl refl (lt-leb (at + length s) (length d) h)
 
 pub laid_there : (at : ℕ) (s d p : List ℕ) → at + length s ≤ length d → p ≡ over s (take (length d - at) (drop at d))
     → Laid at s d true (put_mid at (length d - at) d p)

@@ -7,7 +7,7 @@ use native.Mathlib.Omega.{arith}
 use mir.Syntax.{w8}
 use mir.Val.{Fits}
 use lib.ListN.{length, take, drop, get_or, length-take, length-drop, drop_of_length-le}
-use lib.Seq.{take_all, take-nil, drop-cons, get_or-take, get_or-drop}
+use lib.Seq.{take_all, take-nil, drop-cons}
 use Rattle.meaning.specs.Octets.{Octets}
 use Rattle.meaning.proofs.Octets.{octets_take, octets_drop}
 use Rattle.octets.specs.Parts.{part_of}
@@ -35,11 +35,6 @@ part_rest l at n h = take_all n (drop at l) (omega (arith, length-drop at l))
 
 pub part_to_end : (l : List ℕ) (at n : ℕ) → length l - at ≤ n → take (length l - at) (drop at l) ≡ part_of l at n
 part_to_end l at n h = take_all (length l - at) (drop at l) (omega (arith, length-drop at l)) ∙ sym (part_rest l at n h)
-
--- an octet of a part, by its place in the whole
-pub part_at : (l : List ℕ) (at n i : ℕ) → i < n → get_or (part_of l at n) i 0 ≡ get_or l (at + i) 0
-unfolding part_of
-part_at l at n i h = get_or-take n (drop at l) i 0 h ∙ get_or-drop at l i 0
 
 -- the octets of l from the place at + k on, by their places
 abbrev pub placed : (l : List ℕ) (at k n : ℕ) → List ℕ

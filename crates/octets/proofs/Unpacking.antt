@@ -1,6 +1,6 @@
 -- The way back from packed digits: the text of the halves, and when octets are so many decimal digits. Assumes nothing.
 use mathlib.Core.Path.{◌≡◌, refl, sym, ap, ap₂, ◌∙◌}
-use mathlib.Core.Bool.{Bool, true, false, cond, ◌&&◌, and-true, and-false}
+use mathlib.Core.Bool.{Bool, true, false, ◌&&◌, and-true, and-false}
 use mathlib.Core.List.{List, [], ◌∷◌, map}
 use Prim.Native.Nat.{ℕ, zero, suc, ◌+◌, ◌*◌, ◌-◌, ◌/◌, ◌%◌, ◌<◌, ◌≤◌, min}
 use native.Mathlib.Numerals.{add-one}
@@ -93,21 +93,6 @@ unpacked_length = each_length digit_text
 pub decimals_length : (c : ℕ) (s : List ℕ) → length (decimals (unpack c s)) ≡ min c (2 * length s)
 unfolding decimals
 decimals_length = each_length (λ h. h + 48)
-
--- a half's digit, by one sum
-pub step_small : (n step : ℕ) → step ≡ cond (leb n 9) 0 7 → step ≤ 7
-step_small n step e = go (leb n 9) e
-  where
-    go : (b : Bool) → step ≡ cond b 0 7 → step ≤ 7
-    go true e = omega arith
-    go false e = omega arith
-
-pub step_text : (n step : ℕ) → step ≡ cond (leb n 9) 0 7 → n + 48 + step ≡ digit_text n
-step_text n step e = go (leb n 9) refl e
-  where
-    go : (b : Bool) → leb n 9 ≡ b → step ≡ cond b 0 7 → n + 48 + step ≡ cond b (n + 48) (n + 55)
-    go true p e = omega arith
-    go false p e = omega arith
 
 -- the high half of an octet is a half
 pub high_text : (x : ℕ) → x < 256 → digit_text (x / 16 % 16) ≡ digit_text (x / 16)

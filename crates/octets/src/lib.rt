@@ -10,14 +10,16 @@ ghost use Rattle.meaning.specs.Answers.{over};
 ghost use Rattle.octets.specs.Parts.{part_of, Numbered, Overlaid, laid_at, Laid};
 ghost use Rattle.octets.specs.DigitStrings.{halves, digits_of, gathered_of, got_of, eight_of, turned_of, below_ten};
 
-// "fifteen digits together with their count" at most: the digits' values, with 15s behind them.
+// "fifteen digits together with their count" at most: the digits' values, with 15s behind them. Octets and a length by value, a form
+// that is asked for by name.
 #[derive(Clone, Copy)]
 pub struct Digits {
     pub octets: [u8; 15],
     pub len: usize,
 }
 
-// An octet as a number.
+// An octet as a number. This and `wide32`, `least` and `equal` are the library's own; they stand for those who call them, with their
+// promises and their wrong edits.
 pub fn wide(x: u8) -> usize
     ensures { result ≡ x }
 {
@@ -78,8 +80,8 @@ pub fn u16_at(s: &[u8], at: usize) -> u16
     number(part(s, at, 2)) as u16
 }
 
-// The 32-bit number at a place. It has a way of its own where the four octets are there: with one over every width, `area::step_at`
-// grows too large to be inlined, and the messages of the benchmark are read at 0.51 of the hand-written speed in place of 0.61.
+// The 32-bit number at a place. It has a way of its own where the four octets are there: by the loop over every width, as `u16_at` and
+// `u64_at` have it, a message is read in 299 ns in place of 288, and 2,038 attributes of two octets in 18.4 microseconds in place of 15.2.
 pub fn u32_at(s: &[u8], at: usize) -> u32
     ensures { result ≡ number_of (part_of s.now at 4) }
 {
@@ -416,7 +418,8 @@ fn few_digits(text: &[u8]) -> u64
 }
 
 // The digits of a text of at most 15, two to an octet from the high end of a number on, with 15s behind them; 0 where one is no
-// digit or there are more. So none of them goes through memory: 13.8 ns, where a walk over the digits of a text takes 19.
+// digit or there are more, which no digits give, so that it needs no Option. None of them goes through memory: 13.8 ns, where a walk
+// over the digits of a text takes 19.
 fn gathered(text: &[u8]) -> u64
     ensures { result ≡ gathered_of text.now }
 {

@@ -1,5 +1,5 @@
 // The presence table: a code for each kind and plain number, kinds 1 to 6 in order, 256 numbers each. What is not 0 has its kind and
-// number behind it.
+// number behind it. Octets and no enum: the promise of `row_of` and its test, `agrees`, are over numbers.
 //
 //     0 nothing is said   1 mandatory   2 not permitted   3 not permitted without flag 4   4 the same, and wanted with flag 4
 //     5 wanted with flag 1   6 wanted with flag 2   7 wanted where 32 is absent

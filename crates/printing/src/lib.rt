@@ -53,7 +53,8 @@ pub const LONGEST_LINE: usize = 9 * desk::LONGEST_LIST;
 
 // ---- Pieces
 
-// Lays octets over the start of `out` and tells how many they are.
+// Lays octets over the start of `out` and tells how many they are; 0 where they do not fit. No Option here and below: the programs print so
+// many octets of `out`, and none where nothing was laid (`StartLaid`).
 fn put(s: &[u8], out: &mut [u8]) -> usize
     ensures { StartLaid s.now out.old result out.new }
 {
@@ -155,7 +156,7 @@ fn open_line(kept: usize) -> Text
         .with(b" octets, not judged\n")
 }
 
-// ---- Jobs with so much room of a lent buffer
+// ---- Jobs with so much room of a lent buffer. One for each, since each calls another job of the desk and promises what that one promises.
 
 fn read_within(
     area: &[u8],
@@ -200,12 +201,10 @@ fn read_line(given: &[u8], all: usize, room: usize, sheet: &mut [u8], out: &mut 
         out.new }
     ensures sheet_after { sheet.new ≡ sheet_after given.now (min room (length sheet.old)) sheet.old }
 {
-    if given.len() < 2 {
+    let [kind, flags, area @ ..] = given else {
         return put(b"short\n", out);
-    }
-    let kind = u32::from(given[0]);
-    let flags = u32::from(given[1]);
-    match read_within(&given[2..], kind, flags, room, sheet) {
+    };
+    match read_within(area, u32::from(*kind), u32::from(*flags), room, sheet) {
         Ok(n) => put_hex(octets::part(sheet, 0, n), out),
         Err(refusal) => put_refusal(refusal, all, out),
     }
@@ -217,12 +216,10 @@ fn check_line(given: &[u8], all: usize, room: usize, list: &mut [u32], out: &mut
         out.new }
     ensures list_after { list.new ≡ list_after given.now (min room (length list.old)) list.old }
 {
-    if given.len() < 2 {
+    let [kind, flags, area @ ..] = given else {
         return put(b"short\n", out);
-    }
-    let kind = u32::from(given[0]);
-    let flags = u32::from(given[1]);
-    match check_within(&given[2..], kind, flags, room, list) {
+    };
+    match check_within(area, u32::from(*kind), u32::from(*flags), room, list) {
         Ok(n) => put_list(list, n, out),
         Err(refusal) => put_refusal(refusal, all, out),
     }
@@ -291,12 +288,10 @@ pub fn record(
 pub fn read(given: &[u8], all: usize, out: &mut [u8]) -> usize
     ensures { StartLaid (read_printed given.now all (length out.old)) out.old result out.new }
 {
-    if given.len() < 2 {
+    let [kind, flags, area @ ..] = given else {
         return put(b"short\n", out);
-    }
-    let kind = u32::from(given[0]);
-    let flags = u32::from(given[1]);
-    match desk::read(&given[2..], kind, flags, out) {
+    };
+    match desk::read(area, u32::from(*kind), u32::from(*flags), out) {
         Ok(n) => n,
         Err(refusal) => put_refusal(refusal, all, out),
     }
@@ -306,13 +301,11 @@ pub fn read(given: &[u8], all: usize, out: &mut [u8]) -> usize
 pub fn check(given: &[u8], all: usize, out: &mut [u8]) -> usize
     ensures { StartLaid (check_printed given.now all 6126) out.old result out.new }
 {
-    if given.len() < 2 {
+    let [kind, flags, area @ ..] = given else {
         return put(b"short\n", out);
-    }
-    let kind = u32::from(given[0]);
-    let flags = u32::from(given[1]);
+    };
     let mut list = [0u32; desk::LONGEST_LIST];
-    match desk::check(&given[2..], kind, flags, &mut list) {
+    match desk::check(area, u32::from(*kind), u32::from(*flags), &mut list) {
         Ok(n) => lines::entries(&list, n, b'\n', out),
         Err(refusal) => put_refusal(refusal, all, out),
     }

@@ -37,22 +37,10 @@ put_laid at n s t d out same size room e =
 pub put_as : (at n : ℕ) (s t d out : List ℕ) → t ≡ s → LaidCounted at s d n out → LaidCounted at t d n out
 put_as at n s t d out same w = subst (λ (r : List ℕ). LaidCounted at r d n out) (sym same) w
 
--- a number, by the form, and an address
-pub put_octet : (f n at : ℕ) (d : List ℕ) → f ≡ 7 → at + 4 ≤ length d
-    → LaidCounted at (cond (eqb f 7) ((n % 256) ∷ []) (octets_of 4 n)) d 1 (set d at (n % 256))
-put_octet f n at d e room =
-    let one : List ℕ = (n % 256) ∷ [] in
-    let same : cond (eqb f 7) one (octets_of 4 n) ≡ one = rw (eq-eqb f 7 e) in
-    put_laid at 1 one _ d _ same refl (omega (arith, ap length same)) (each_laid at one d (omega arith) 0 refl)
-
 pub put_address : (n at : ℕ) (four d out : List ℕ) → four ≡ octets_of 4 n → at + 4 ≤ length d → out ≡ laid_at at four d
     → LaidCounted at (octets_of 4 n) d 4 out
 unfolding octets_of
 put_address n at four d out q room h = put_laid at 4 four _ d out (sym q) (sym (ap length q)) room h
-
-pub put_word : (f n at : ℕ) (four d out : List ℕ) → (f ≡ 7 → ⊥) → four ≡ octets_of 4 n → at + 4 ≤ length d → out ≡ laid_at at four d
-    → LaidCounted at (cond (eqb f 7) ((n % 256) ∷ []) (octets_of 4 n)) d 4 out
-put_word f n at four d out e q room h = put_as at 4 _ _ d out (rw (ne_eqb f 7 e)) (put_address n at four d out q room h)
 
 -- ---- The forms of plain octets
 

@@ -4,7 +4,6 @@ use mathlib.Core.List.{List, ◌++◌}
 use Prim.Native.Nat.{ℕ, ◌+◌, ◌*◌, ◌≤◌, ◌<◌}
 use native.Mathlib.Omega.{arith}
 use lib.ListN.{length, take, length-append}
-use lib.Seq.{length-take-le}
 use Rattle.meaning.specs.Versions.{current}
 use Rattle.meaning.specs.Octets.{Octets, octets_of}
 use Rattle.meaning.specs.Framing.{walk, attributes}
@@ -90,9 +89,6 @@ module _
       -- they stand in the buffer
       pub items_within : t.written ≤ length made
       items_within = omega (arith, laid.few, room)
-
-      pub items_long : length (take t.written made) ≡ t.written
-      items_long = length-take-le t.written made items_within
 
       accepted : area_refusal kind flags area ≡ none
       accepted = left ∙ laid.sound

@@ -38,12 +38,6 @@ one_digit v = ap (λ (t : Bool). t && all is_digit v) (one (length v))
     one (suc zero) = refl
     one (suc (suc n)) = ap (λ (t : Bool). leb 1 (suc (suc n)) && t) (lt-leb (suc (suc n)) 1 (omega arith)) ∙ and-false (leb 1 (suc (suc n))) ∙ sym (ne_eqb (suc (suc n)) 1 (λ e. omega arith))
 
-pub hex_other : (v : List ℕ) (n : ℕ) → (length v ≡ n → ⊥) → false ≡ eqb (length v) n && all is_hex v
-hex_other v n h = rw (ne_eqb (length v) n h)
-
-pub hex_all : (v : List ℕ) (n : ℕ) → length v ≡ n → all is_hex v ≡ eqb (length v) n && all is_hex v
-hex_all v n e = rw (eq-eqb (length v) n e)
-
 -- ---- A release
 
 pub release_length : (a b n : ℕ) (v : List ℕ) → (length v ≡ 3 + n → ⊥) → false ≡ release current a b n v

@@ -1,9 +1,10 @@
 -- The book, "The sheet": the item of a carried number whose value is a part of an area, and the octets that it stores.
 -- Assumes nothing.
-use Rattle.std.specs.Prelude.{ℕ, ◌+◌, ◌*◌, ◌%◌, cond, List, [], ◌∷◌, eqb, drop, get_or}
+use Rattle.std.specs.Prelude.{ℕ, ◌≡◌, ◌⊎◌, ◌+◌, ◌*◌, ◌%◌, cond, List, [], ◌∷◌, eqb, drop, get_or}
 use Rattle.meaning.specs.Versions.{current}
 use Rattle.meaning.specs.Octets.{number_of, octets_of, pack, digit_value, values}
 use Rattle.meaning.specs.Framing.{is_plain}
+use Rattle.meaning.specs.Shapes.{Shape, number, address}
 use Rattle.meaning.specs.Sheet.{form, count, stored}
 use Rattle.octets.specs.declared.Digits.{Digits}
 use Rattle.octets.specs.Parts.{part_of}
@@ -47,6 +48,10 @@ item_for n v p =
 -- the item of a carried number whose value is a part of an area
 unfoldable pub item_at : (area : List ℕ) (number : ℕ) → Part → Item
 item_at area n p = item_for n (part_of area p.start p.len) p
+
+-- a shape of four octets, by its form: a number, an address
+abbrev pub FourOctets : Shape → (form : ℕ) → Type 0
+FourOctets s f = ((s ≡ number) × (f ≡ 2)) ⊎ ((s ≡ address) × (f ≡ 3))
 
 -- what an item of this form stores of plain octets: as they stand, or in form 5 as packed text, in form 6 with the release before it
 unfoldable pub stored_part : (form : ℕ) → List ℕ → List ℕ

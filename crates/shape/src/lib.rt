@@ -10,7 +10,7 @@ ghost use Rattle.meaning.specs.Shapes as meant;
 ghost use Rattle.meaning.specs.Framing.{is_plain};
 ghost use Rattle.meaning.specs.Sheet.{form_of, stored_length};
 ghost use Rattle.shape.specs.Codes.{code_of, shape_by};
-ghost use Rattle.shape.specs.Items.{undigited, raw_item, item_for};
+ghost use Rattle.shape.specs.Items.{undigited, raw_item, item_for, FourOctets};
 
 // The 3GPP numbers that have a shape, as carried numbers: 256 more than the sub-attribute's.
 pub const IMSI: u16 = 257;
@@ -41,7 +41,8 @@ pub const SGSN_MCC_MNC: u16 = 274;
 
 // The codes of the shapes. The tens of a code are the form of the shape, 0 where it has none of its own, and the ones tell the shapes of
 // one form apart: a least length, 17 octets or blocks of 16; a number, an address, 1 to 15 digits, 5 or 6 digits, hexadecimal text, a QoS
-// profile, one hexadecimal digit, any octet, one decimal digit. 0 is no shape.
+// profile, one hexadecimal digit, any octet, one decimal digit. 0 is no shape. Numbers and no enum, since `meets_code`, `item::is_raw`,
+// `takes_digits` and `is_octet` promise an answer for every octet as a code.
 pub const AT_LEAST_ONE: u8 = 1;
 
 pub const AT_LEAST_FIVE: u8 = 2;
@@ -78,7 +79,7 @@ pub enum Value {
 }
 
 // An item of the sheet: the number that it carries, 0 to 255 for a plain one and 256 more than the sub-attribute's for a 3GPP one,
-// its form and count, its value, and the digits in form 4.
+// its form and count, its value, and the digits in form 4. The form is the octet that stands in the sheet, where any octet may stand.
 #[derive(Clone, Copy)]
 pub struct Item {
     pub number: u16,
@@ -239,8 +240,9 @@ pub fn meets_code(code: u8, value: &[u8]) -> bool
     }
 }
 
-// Whether a value meets the shape of a carried number. Here and in `item_of`, but for digits there, the even and the odd numbers of a
-// shape have an arm each: neighbours in one arm would be tested as a range, behind all the others.
+// Whether a value meets the shape of a carried number. It is no `meets_code` of `code_of`: by the code a message takes another jump an
+// attribute, and the forms of one code would have to be told apart again. Here and in `item_of`, but for digits there, the even and the
+// odd numbers of a shape have an arm each: neighbours in one arm would be tested as a range, behind all the others.
 pub fn meets(number: u16, value: &[u8]) -> bool
     ensures { result ≡ meant.meets current (shape_of number) value.now }
 {
@@ -308,26 +310,23 @@ fn raw_item(number: u16, count: usize, value: area::Part) -> Item
     undigited_item(number, plain_form(number), count, Value::Plain(value))
 }
 
-// The item of a number whose shape is a number. Here and below `v` are the octets of the part `value`.
-fn number_item(number: u16, v: &[u8], value: area::Part) -> Item
-    requires { shape_of number ≡ meant.number }
+// The item of a number whose shape is four octets: a number, in form 2, or an address, in form 3. Here and below `v` are the octets of the
+// part `value`. The number, the octets and the part go apart: as a struct with methods they went through memory, and a message was read in
+// 327 ns in place of 291.
+fn four_item(number: u16, form: u8, v: &[u8], value: area::Part) -> Item
+    requires { FourOctets (shape_of number) form }
     ensures { result ≡ item_for number v.now value }
 {
     if v.len() != 4 {
         return raw_item(number, v.len(), value);
     }
-    undigited_item(number, 2, 4, Value::Number(octets::u32_at(v, 0)))
-}
-
-// The item of a number whose shape is an address.
-fn address_item(number: u16, v: &[u8], value: area::Part) -> Item
-    requires { shape_of number ≡ meant.address }
-    ensures { result ≡ item_for number v.now value }
-{
-    if v.len() != 4 {
-        return raw_item(number, v.len(), value);
-    }
-    undigited_item(number, 3, 4, Value::Address(octets::u32_at(v, 0)))
+    let n = octets::u32_at(v, 0);
+    let shown = if form == 2 {
+        Value::Number(n)
+    } else {
+        Value::Address(n)
+    };
+    undigited_item(number, form, 4, shown)
 }
 
 // The item of a number whose shape is `least` to `most` digits. Each digit is tested once, where it is taken.
@@ -414,10 +413,10 @@ pub fn item_of(v: &[u8], number: u16, value: area::Part) -> Item
     ensures { result ≡ item_for number v.now value }
 {
     match number {
-        6 | 40 | 42 | 46 | 48 | CHARGING_ID => number_item(number, v, value),
-        7 | 41 | 43 | 45 | 47 | 49 | 61 | PDP_TYPE => number_item(number, v, value),
-        4 | 8 | CG_ADDRESS | SGSN_ADDRESS => address_item(number, v, value),
-        9 | GGSN_ADDRESS => address_item(number, v, value),
+        6 | 40 | 42 | 46 | 48 | CHARGING_ID => four_item(number, 2, v, value),
+        7 | 41 | 43 | 45 | 47 | 49 | 61 | PDP_TYPE => four_item(number, 2, v, value),
+        4 | 8 | CG_ADDRESS | SGSN_ADDRESS => four_item(number, 3, v, value),
+        9 | GGSN_ADDRESS => four_item(number, 3, v, value),
         31 | IMSI | IMSI_MCC_MNC | GGSN_MCC_MNC | SGSN_MCC_MNC => any_digits(number, v, value),
         44 => hex_item(number, v, value),
         QOS_PROFILE => qos_item(number, v, value),

@@ -16,7 +16,6 @@ use Rattle.meaning.proofs.Tests.{parts, passes, not_both}
 use Rattle.meaning.proofs.Packing.{unpack_length}
 use Rattle.octets.specs.Parts.{part_of, laid_at, Begun}
 use Rattle.octets.specs.DigitStrings.{packed_digits, decimals}
-use Rattle.octets.proofs.Parts.{part_four, part_rest}
 use Rattle.octets.proofs.Overs.{Pasted, pasted_more, pasted_all, each_laid}
 use Rattle.octets.proofs.Begun.{begun_laid, begun_as, begun_short}
 use Rattle.octets.proofs.Unpacking.{decimals_length, packed_decimals, high_at, low_at}
@@ -113,14 +112,6 @@ module _ (at : ℕ) (s : Shape) (c : ℕ) (st d : List ℕ) (long : length st �
         (begun_as at (decimals (unpack c st)) (text (unpack c st)) d out (sym (packed_decimals c st (sym u.says ∙ e))) (u.is e))
 
 -- ---- Four octets
-
-pub fours_laid : (at : ℕ) (own : Bool) (st d out : List ℕ) → own ≡ true → length st ≡ 4 → at + 4 ≤ length d
-    → out ≡ laid_at at (get_or st 0 0 ∷ get_or st 1 0 ∷ get_or st 2 0 ∷ get_or st 3 0 ∷ []) d
-    → Laying at (own && eqb (length st) 4) st d (Some 4) out
-fours_laid at own st d out e n room h =
-    let four : get_or st 0 0 ∷ get_or st 1 0 ∷ get_or st 2 0 ∷ get_or st 3 0 ∷ [] ≡ st =
-    part_four st 0 _ _ _ _ (omega arith) refl refl refl refl ∙ part_rest st 0 4 (omega arith) in
-    laying_laid at (own && eqb (length st) 4) st d out (rw (e, n)) 4 (sym n) room (h ∙ ap (λ (s : List ℕ). laid_at at s d) four)
 
 -- ---- A QoS profile
 

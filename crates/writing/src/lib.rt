@@ -44,6 +44,10 @@ pub struct Written {
     pub flags: u8,
 }
 
+// Buffer and place go together through the writers here, as through those of `octets` and `reading`: what is promised is what stands at the
+// place, and that all before it is kept (`Begun`). Lent from the place on, the buffer would be taken apart at each writer, and what it
+// promises carried back.
+
 // Lays what stands before an attribute's value but for its lengths: the type, or type 26, the vendor id and the sub-attribute number.
 fn put_front(buf: &mut [u8], at: usize, number: u16)
     requires { (number < 512) × (at + head_length number ≤ length buf.old) }
@@ -102,22 +106,20 @@ fn put_digits(buf: &mut [u8], at: usize, count: usize, stored: &[u8]) -> bool
     ensures { Digited at count stored.now buf.old result buf.new }
 {
     let pairs = count / 2;
-    let mut i: usize = 0;
-    while i < pairs {
+    for i in 0..pairs {
         let x = stored[i];
         if !((x / 16 <= 9) & (x % 16 <= 9)) {
             return false;
         }
         buf[at + 2 * i] = x / 16 + 48;
         buf[at + 2 * i + 1] = x % 16 + 48;
-        i += 1;
     }
-    if 2 * i < count {
-        let x = stored[i];
+    if 2 * pairs < count {
+        let x = stored[pairs];
         if !((x / 16 <= 9) & (x % 16 == 15)) {
             return false;
         }
-        buf[at + 2 * i] = x / 16 + 48;
+        buf[at + 2 * pairs] = x / 16 + 48;
     }
     true
 }
@@ -403,7 +405,7 @@ fn hand_over(written: Written, made: &[u8], area: &mut [u8]) -> Result<Written, 
 }
 
 // Write: what a sheet was read from, the area at the buffer's start; a refusal leaves the buffer as it was. An area that the
-// short buffer has no room for is made again.
+// short buffer has no room for is made again: so the two buffers have a way each, one of which may give up.
 pub fn write(sheet: &[u8], area: &mut [u8]) -> Result<Written, Refusal>
     ensures { Wrote sheet.now area.old result area.new }
 {

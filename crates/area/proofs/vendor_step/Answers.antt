@@ -2,7 +2,7 @@
 use native.Mathlib.Omega.{arith}
 use mathlib.Core.Path.{sym, ap, ◌∙◌}
 use Rattle.area.specs.Answers.{step_of}
-use Rattle.area.proofs.Found.{vendor_other, vendor_broken, vendor_sub}
+use Rattle.area.proofs.Found.{vendor_other, vendor_sub}
 use Rattle.area.proofs.vendor_step.Goals as goal
 
 pub returns-then-u32_at-ne-VENDOR_3GPP : goal.returns-then-u32_at-ne-VENDOR_3GPP
@@ -12,15 +12,8 @@ returns-then-u32_at-ne-VENDOR_3GPP c =
 
 pub returns-then-m-size : goal.returns-then-m-size
 returns-then-m-size c =
-    let u = c in
     c.attribute-then-m-size.ensures
     ∙ rw c.gpp.ensures
     (ap (step_of _)
     (sym
-    (vendor_sub _ _ _ (omega arith) (sym u.u32_at.ensures ∙ u.if-u32_at-ne-VENDOR_3GPP.false) (omega arith) (omega arith) (omega arith))))
-
-pub returns-else-m-size : goal.returns-else-m-size
-returns-else-m-size c =
-    let u = c in
-    c.refused-else-m-size.ensures
-    ∙ ap (step_of _) (sym (vendor_broken _ _ _ (omega arith) (sym u.u32_at.ensures ∙ u.if-u32_at-ne-VENDOR_3GPP.false) (omega arith)))
+    (vendor_sub _ _ _ (omega arith) (sym c.u32_at.ensures ∙ c.if-u32_at-ne-VENDOR_3GPP.false) (omega arith) (omega arith) (omega arith))))

@@ -4,7 +4,7 @@ use mathlib.Core.Path.{sym}
 use native.Mathlib.Omega.{arith}
 use lib.Seq.{length-take-le}
 use Rattle.octets.proofs.Overs.{copied_front}
-use Rattle.checking.proofs.Whole.{arrived_ready, framing_refused, too_long, few_fit, list_few, list_laid}
+use Rattle.checking.proofs.Whole.{arrived_ready, framing_refused, too_long, list_few, list_laid}
 use Rattle.checking.proofs.lay.Goals as goal
 
 pub pass-requires : goal.pass-requires

@@ -2,16 +2,11 @@
 use mathlib.Core.Path.{refl, sym, ap, ◌∙◌}
 use native.Mathlib.Omega.{arith}
 use Rattle.meaning.specs.Listing.{Candidate}
-use Rattle.checking.proofs.Laying.{laying_none, laying_more, laying_all, laid_kept}
+use Rattle.checking.proofs.Laying.{laying_none, laying_more, laid_kept}
 use Rattle.checking.proofs.put_each.Goals as goal
 
 pub loop-number-init : goal.loop-number-init
 loop-number-init g c = record { few = omega arith; kept = refl; laying = λ by t. laying_none _ _ _ _ }
-
-pub put-written-requires : goal.put-written-requires
-put-written-requires g c =
-    let r = c.requires.room in
-    (omega (arith, r.0, c.loop-number.invariant.few), r.1, r.2, c.requires.low _ (omega arith))
 
 pub loop-number-preserved : goal.loop-number-preserved
 loop-number-preserved g c =
@@ -26,6 +21,3 @@ loop-number-preserved g c =
           let stands = ap (λ (x : Candidate). x.stands) q in
           laying_more _ _ _ _ _ _ _ (i.laying by t) (omega arith) c.stands.result _ _ (sym stands) (rw key p);
     }
-
-pub returns : goal.returns
-returns g c = λ by t. laying_all _ _ _ _ _ _ _ (c.loop-number.invariant.laying by t) (omega arith)

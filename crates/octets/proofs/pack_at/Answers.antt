@@ -1,11 +1,9 @@
 -- The packed halves are laid over the part from the place on, if they fit. Assumes nothing.
 use mathlib.Core.Path.{sym, ◌∙◌}
 use borrow.Author.Tests.{not-true, not-false}
-use native.Mathlib.Omega.{arith}
-use lib.ListN.{length-drop, length-take}
 use Rattle.meaning.specs.Octets.{pack}
 use Rattle.octets.specs.DigitStrings.{halves}
-use Rattle.octets.proofs.Overs.{laid_room, laid_not, laid_part}
+use Rattle.octets.proofs.Overs.{laid_not, laid_part}
 use Rattle.octets.proofs.Halves.{halves_packed}
 use Rattle.octets.proofs.pack_at.Goals as goal
 
@@ -14,14 +12,7 @@ returns-then-not-fits c =
     let a = c.args in
     laid_not a.at (pack (halves a.text.now)) a.buf.now _ _ (c.packed_len.ensures ∙ sym (halves_packed c.args.text.now)) c.fits.ensures (not-true _ c.if-not-fits.true-raw)
 
-pub slice_bounds-pack_text-count : goal.slice_bounds-pack_text-count
-slice_bounds-pack_text-count c = omega (arith, c.packed_len.ensures, laid_room c.args.at (pack (halves c.args.text.now)) c.args.buf.now _ _ (c.packed_len.ensures ∙ sym (halves_packed c.args.text.now)) c.fits.ensures (not-false _ c.if-not-fits.false-raw))
-
-pub pack_text-requires : goal.pack_text-requires
-pack_text-requires c = let r = laid_room c.args.at (pack (halves c.args.text.now)) c.args.buf.now _ _ (c.packed_len.ensures ∙ sym (halves_packed c.args.text.now)) c.fits.ensures (not-false _ c.if-not-fits.false-raw) in simp (length-take, length-drop) (omega (arith, c.packed_len.ensures))
-
 pub returns : goal.returns
 returns c =
-    let u = c in
-    let a = u.args in
-    laid_part a.at (pack (halves a.text.now)) a.buf.now _ _ (c.packed_len.ensures ∙ sym (halves_packed c.args.text.now)) u.fits.ensures _ (not-false _ u.if-not-fits.false-raw) c.pack_text.ensures
+    let a = c.args in
+    laid_part a.at (pack (halves a.text.now)) a.buf.now _ _ (c.packed_len.ensures ∙ sym (halves_packed c.args.text.now)) c.fits.ensures _ (not-false _ c.if-not-fits.false-raw) c.pack_text.ensures

@@ -1,8 +1,7 @@
 -- The number of the part of 2 octets, which fits the width. Assumes nothing.
-use mathlib.Core.Path.{ap, ◌∙◌}
+use mathlib.Core.Path.{ap}
 use native.Mathlib.Omega.{arith}
 use lib.ListN.{length}
-use Rattle.meaning.specs.Octets.{number_of}
 use Rattle.octets.proofs.Parts.{part_at_most, part_narrows}
 use Rattle.octets.proofs.u16_at.Goals as goal
 
@@ -11,6 +10,3 @@ number-requires c = let a = c.args in omega (arith, ap length c.part.ensures, pa
 
 pub overflow_cast-result : goal.overflow_cast-result
 overflow_cast-result c = let a = c.args in omega (arith, part_narrows a.s.now _ a.at 2 _ c.part.ensures c.number.ensures.fits)
-
-pub returns : goal.returns
-returns c = c.number.ensures.is ∙ ap number_of c.part.ensures

@@ -5,5 +5,4 @@ use Rattle.printing.proofs.lay_hex.Goals as goal
 
 pub returns : goal.returns
 returns c =
-    let u = c in
-    hex_laid _ _ _ _ _ _ _ _ refl u.requires u.unpack_at.ensures c.copy_at.ensures
+    hex_laid _ _ _ _ _ _ _ _ refl c.requires c.unpack_at.ensures c.copy_at.ensures

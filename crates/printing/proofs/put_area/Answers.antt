@@ -2,14 +2,11 @@
 use native.Mathlib.Omega.{arith}
 use mathlib.Core.Path.{ap}
 use lib.ListN.{length}
-use Rattle.printing.proofs.Pieces.{area_there, area_not, kind_flags_length}
+use Rattle.printing.proofs.Pieces.{area_there, area_not}
 use Rattle.printing.proofs.put_area.Goals as goal
 
 pub returns-then-out-area : goal.returns-then-out-area
 returns-then-out-area c = let a = c.args in area_not a.kind a.flags _ _ (omega arith)
-
-pub overflow_add-n-2 : goal.overflow_add-n-2
-overflow_add-n-2 c = let a = c.args in omega (arith, ap length c.kind_flags-front.ensures, ap length c.as_slice-at.ensures, kind_flags_length a.kind a.flags)
 
 pub returns-then-out-n : goal.returns-then-out-n
 returns-then-out-n c = let a = c.args in area_not a.kind a.flags _ _ (omega (arith, ap length c.kind_flags-front.ensures, ap length c.as_slice-at.ensures))

@@ -6,17 +6,14 @@ use Rattle.printing.proofs.put_list.Goals as goal
 
 pub returns-then-min-eq0 : goal.returns-then-min-eq0
 returns-then-min-eq0 c =
-    let k = c in
-    list_none _ _ _ _ _ (sym k.min.ensures ∙ omega arith) c.put.ensures
+    list_none _ _ _ _ _ (sym c.min.ensures ∙ omega arith) c.put.ensures
 
 pub returns-then-n-eq0 : goal.returns-then-n-eq0
 returns-then-n-eq0 c =
-    let k = c in
-    let a = k.args in
-    list_not a.list.now a.out.now a.count _ _ (λ e. omega (arith, k.min.ensures)) c.entries-n.ensures (omega arith)
+    let a = c.args in
+    list_not a.list.now a.out.now a.count _ _ (λ e. omega (arith, c.min.ensures)) c.entries-n.ensures (omega arith)
 
 pub returns : goal.returns
 returns c =
-    let k = c in
-    let a = k.args in
-    list_there a.list.now a.out.now a.count _ _ (λ e. omega (arith, k.min.ensures)) c.entries-n.ensures _ _ (λ e. omega arith) c.copy_at.ensures
+    let a = c.args in
+    list_there a.list.now a.out.now a.count _ _ (λ e. omega (arith, c.min.ensures)) c.entries-n.ensures _ _ (λ e. omega arith) c.copy_at.ensures

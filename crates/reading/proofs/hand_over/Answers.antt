@@ -9,8 +9,7 @@ returns-then-sheet-needed c = no_room _ _ _ _ _ c.if-sheet-needed.true
 
 pub returns : goal.returns
 returns c =
-    let k = c in
-    let room = k.if-sheet-needed.false in
-    let first = k.copy_at.ensures.holds in
+    let room = c.if-sheet-needed.false in
+    let first = c.copy_at.ensures.holds in
     let behind = copied_part _ _ _ _ _ (omega arith) (laid_keeps _ _ _ _ _ first room) c.copy_from_slice.ensures.after in
-    both_laid _ _ _ _ _ _ _ _ k.sheet_head-head.ensures room first behind
+    both_laid _ _ _ _ _ _ _ _ c.sheet_head-head.ensures room first behind

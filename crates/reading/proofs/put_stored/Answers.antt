@@ -10,27 +10,21 @@ returns-in-Number c = put_as _ _ _ _ _ _ (number_stored _ _ _ c.in-Number.is) c.
 
 pub returns-in-Address : goal.returns-in-Address
 returns-in-Address c =
-    let s = c in
     put_as _ _ _ _ _ _ (address_stored _ _ _ c.in-Address.is)
-    (put_address _ _ _ _ _ c.u32_octets-four.ensures (omega (arith, s.requires.1))
-    (copied_part _ _ _ _ _ (omega arith) (omega (arith, s.requires.1)) c.copy_from_slice.ensures.after))
+    (put_address _ _ _ _ _ c.u32_octets-four.ensures (omega (arith, c.requires.1))
+    (copied_part _ _ _ _ _ (omega arith) (omega (arith, c.requires.1)) c.copy_from_slice.ensures.after))
 
 pub returns-in-Digits : goal.returns-in-Digits
 returns-in-Digits c =
-    let s = c in
     put_as _ _ _ _ _ _ (digits_stored _ _ c.in-Digits.is)
     (digits_put _ _ _ _ _ _ _ c.packed-eight.ensures c.min.ensures
-    c.packed_len.ensures (omega (arith, s.requires.1))
-    (copied_part _ _ _ _ _ (omega arith) (omega (arith, s.requires.1)) c.copy_from_slice-in-Digits.ensures.after))
-
-pub slice_bounds-put_part-count : goal.slice_bounds-put_part-count
-slice_bounds-put_part-count c = omega (arith, c.requires.0.inside _ c.in-Plain.is)
+    c.packed_len.ensures (omega (arith, c.requires.1))
+    (copied_part _ _ _ _ _ (omega arith) (omega (arith, c.requires.1)) c.copy_from_slice-in-Digits.ensures.after))
 
 pub put_part-requires : goal.put_part-requires
 put_part-requires c =
-    let s = c in
     let is = c.in-Plain.is in
-    (s.requires.0.released _ is, (rest_holds _ _ _ is s.requires.0, rest_room _ _ _ is _ _ s.requires.1))
+    (c.requires.0.released _ is, (rest_holds _ _ _ is c.requires.0, rest_room _ _ _ is _ _ c.requires.1))
 
 pub returns-in-Plain : goal.returns-in-Plain
 returns-in-Plain c = put_as _ _ _ _ _ _ (rest_stored _ _ _ c.in-Plain.is) c.put_part.ensures

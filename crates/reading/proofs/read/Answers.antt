@@ -11,9 +11,6 @@ returns-in_err-arrive c =
     let p = err_from_is_err_and c.from_residual.result c.from_residual.ensures.1 in
     rw (p.1, p.2) (refused_read _ _ _ _ _ (refused_first _ _ _ _ c.arrive.ensures _ c.in_err-arrive.was))
 
-pub read_by-requires : goal.read_by-requires
-read_by-requires c = (sym c.arrive.ensures ∙ c.in_ok-arrive.was, omega arith, omega arith)
-
 pub read_by-requires-2 : goal.read_by-requires-2
 read_by-requires-2 c =
     let fit = sym c.arrive.ensures ∙ c.in_ok-arrive.was in

@@ -1,16 +1,10 @@
 -- `reading::read_by` meets its contract. Assumes nothing.
 use Rattle.std.proofs.lemmas.Result.{err_from_is_err_and}
-use mathlib.Core.Path.{refl, sym}
+use mathlib.Core.Path.{refl}
 use native.Mathlib.Omega.{arith}
 use Rattle.octets.proofs.Parts.{slice_octets}
 use Rattle.reading.proofs.Whole.{bounded, handed_read, framing_refused, items_within}
 use Rattle.reading.proofs.read_by.Goals as goal
-
-pub whole_as_slice-put_items : goal.whole_as_slice-put_items
-whole_as_slice-put_items g c = omega (arith, c.requires.2)
-
-pub put_items-requires : goal.put_items-requires
-put_items-requires g c = omega (arith, c.requires.1)
 
 pub returns-in_err-tally : goal.returns-in_err-tally
 returns-in_err-tally g c =

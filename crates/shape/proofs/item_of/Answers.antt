@@ -8,17 +8,17 @@ use Rattle.shape.proofs.Items.{item_raw}
 use Rattle.shape.proofs.item_of.Goals as goal
 use Rattle.shape.proofs.item_of.Goals.{in-31-1, in_default+else-number-lt257+then-number-lt266, in_default-via-then-number-lt257, in_default-via-else-number-lt257+else-number-lt266}
 
-pub number_item-requires : goal.number_item-requires
-number_item-requires c = in_form 0 _ c.in-6.is
+pub four_item-requires : goal.four_item-requires
+four_item-requires c = inl (in_form 0 _ c.in-6.is, refl)
 
-pub number_item-requires-in-7 : goal.number_item-requires-in-7
-number_item-requires-in-7 c = in_form 1 _ c.in-7.is
+pub four_item-requires-in-7 : goal.four_item-requires-in-7
+four_item-requires-in-7 c = inl (in_form 1 _ c.in-7.is, refl)
 
-pub address_item-requires : goal.address_item-requires
-address_item-requires c = in_form 2 _ c.in-4.is
+pub four_item-requires-in-4 : goal.four_item-requires-in-4
+four_item-requires-in-4 c = inr (in_form 2 _ c.in-4.is, refl)
 
-pub address_item-requires-in-9 : goal.address_item-requires-in-9
-address_item-requires-in-9 c = in_form 3 _ c.in-9.is
+pub four_item-requires-in-9 : goal.four_item-requires-in-9
+four_item-requires-in-9 c = inr (in_form 3 _ c.in-9.is, refl)
 
 pub hex_item-requires : goal.hex_item-requires
 hex_item-requires c = in_form 7 _ c.in-44.is
@@ -45,39 +45,9 @@ any_digits-requires c =
       | in_default+else-number-lt257+then-number-lt266 w ↦ digits_behind _ w.in_default-1.rest (omega arith) (omega arith)
     ]
 
-pub returns-in-6 : goal.returns-in-6
-returns-in-6 c = c.number_item.ensures
-
-pub returns-in-7 : goal.returns-in-7
-returns-in-7 c = c.number_item-in-7.ensures
-
-pub returns-in-4 : goal.returns-in-4
-returns-in-4 c = c.address_item.ensures
-
-pub returns-in-9 : goal.returns-in-9
-returns-in-9 c = c.address_item-in-9.ensures
-
-pub returns-in-44 : goal.returns-in-44
-returns-in-44 c = c.hex_item.ensures
-
-pub returns-in-261 : goal.returns-in-261
-returns-in-261 c = c.qos_item.ensures
-
-pub returns-in-266 : goal.returns-in-266
-returns-in-266 c = c.octet_item.ensures
-
-pub returns-in-267 : goal.returns-in-267
-returns-in-267 c = c.octet_item-in-267.ensures
-
-pub returns-in-268 : goal.returns-in-268
-returns-in-268 c = c.octet_item-in-268.ensures
-
 pub returns-in_default : goal.returns-in_default
 returns-in_default c =
     c.raw_item.ensures ∙ item_raw _ _ _ (form_other _ c.in_default-1.rest (elim c.in_default.branch [
       | in_default-via-then-number-lt257 w ↦ inl (omega arith)
       | in_default-via-else-number-lt257+else-number-lt266 w ↦ inr (omega arith)
     ]))
-
-pub returns-in-31 : goal.returns-in-31
-returns-in-31 c = c.any_digits.ensures

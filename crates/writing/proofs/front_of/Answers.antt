@@ -16,12 +16,10 @@ bounds-sheet-6 c = omega (arith, marked_nine _ (sym c.is_marked.ensures ∙ not-
 
 pub returns-then-not-is_kind-are_flags : goal.returns-then-not-is_kind-are_flags
 returns-then-not-is_kind-are_flags c =
-    let i = c in
-    front_21 _ (sym i.is_marked.ensures ∙ not-false _ i.if-not-is_marked.false-raw) _ _ (rw i.from.ensures at i.is_kind.ensures)
+    front_21 _ (sym c.is_marked.ensures ∙ not-false _ c.if-not-is_marked.false-raw) _ _ (rw c.from.ensures at c.is_kind.ensures)
     (rw c.from-2.ensures at c.are_flags.ensures) c.if-not-is_kind-are_flags.true-raw
 
 pub returns : goal.returns
 returns c =
-    let i = c in
-    front_fit _ (sym i.is_marked.ensures ∙ not-false _ i.if-not-is_marked.false-raw) _ _ (rw i.from.ensures at i.is_kind.ensures)
+    front_fit _ (sym c.is_marked.ensures ∙ not-false _ c.if-not-is_marked.false-raw) _ _ (rw c.from.ensures at c.is_kind.ensures)
     (rw c.from-2.ensures at c.are_flags.ensures) c.if-not-is_kind-are_flags.false-raw

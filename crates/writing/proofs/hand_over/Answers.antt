@@ -1,5 +1,5 @@
 -- 25, or the area. Assumes nothing.
-use mathlib.Core.Path.{sym, ◌∙◌}
+use mathlib.Core.Path.{sym}
 use Rattle.octets.proofs.Overs.{copied_front}
 use Rattle.writing.proofs.Whole.{made_long, over_not, over_laid}
 use Rattle.writing.proofs.hand_over.Goals as goal

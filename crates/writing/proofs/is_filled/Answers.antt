@@ -9,5 +9,4 @@ returns-in-Ok c = filled_none _ (judged_writable _ _ c.judge.ensures c.in-Ok.is)
 pub returns-in-Err : goal.returns-in-Err
 unfolding filled
 returns-in-Err c =
-    let m = c in
-    rw (judged_refusal _ _ m.judge.ensures m.in-Err.is)
+    rw (judged_refusal _ _ c.judge.ensures c.in-Err.is)

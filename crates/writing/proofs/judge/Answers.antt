@@ -1,7 +1,5 @@
 -- The front, then the items, by a buffer with room for one attribute. Assumes nothing.
 use Rattle.std.proofs.lemmas.Result.{err_from_is_err_and}
-use mathlib.Core.Path.{sym, ◌∙◌}
-use native.Mathlib.Omega.{arith}
 use Rattle.writing.proofs.Whole.{judged_front, judged_refused}
 use Rattle.writing.proofs.judge.Goals as goal
 
@@ -9,9 +7,3 @@ pub returns-in_err-front_of : goal.returns-in_err-front_of
 returns-in_err-front_of c =
     let p = err_from_is_err_and c.from_residual.result c.from_residual.ensures.1 in
     rw (p.1, p.2) (judged_refused _ _ (judged_front _ _ c.front_of.ensures _ c.in_err-front_of.was))
-
-pub make-requires : goal.make-requires
-make-requires c = (sym c.front_of.ensures ∙ c.in_ok-front_of.was, omega arith)
-
-pub returns : goal.returns
-returns c = c.make.ensures.says

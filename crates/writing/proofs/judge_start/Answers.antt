@@ -6,10 +6,8 @@ use Rattle.writing.proofs.judge_start.Goals as goal
 
 pub returns-in-Ok : goal.returns-in-Ok
 returns-in-Ok c =
-    let k = c in
-    start_is _ _ (judged_writable _ _ k.judge.ensures k.in-Ok.is) (ap Some c.broken.ensures)
+    start_is _ _ (judged_writable _ _ c.judge.ensures c.in-Ok.is) (ap Some c.broken.ensures)
 
 pub returns-in-Err : goal.returns-in-Err
 returns-in-Err c =
-    let k = c in
-    start_is _ _ (judged_refusal _ _ k.judge.ensures k.in-Err.is) c.start_by.ensures
+    start_is _ _ (judged_refusal _ _ c.judge.ensures c.in-Err.is) c.start_by.ensures

@@ -14,10 +14,9 @@ returns-then-number-lt256 c = plain_front _ _ _ c.if-number-lt256.true c.require
 
 pub returns : goal.returns
 returns c =
-    let s = c in
     let far = c.if-number-lt256.false in
     gpp_front _ _ _ _ _ far c.u32_octets-id.ensures
-    (copied_part _ _ _ _ _ (omega arith) (omega (arith, s.requires.1, gpp_head_length s.args.number far)) c.copy_from_slice.ensures.after)
+    (copied_part _ _ _ _ _ (omega arith) (omega (arith, c.requires.1, gpp_head_length c.args.number far)) c.copy_from_slice.ensures.after)
 
 pub slice_bounds-copy_from_slice-end : goal.slice_bounds-copy_from_slice-end
 slice_bounds-copy_from_slice-end c = omega (arith, c.requires.1, gpp_head_length c.args.number c.if-number-lt256.false)

@@ -9,11 +9,9 @@ returns-then-not-takes_digits c = let l = c.args.stored.now in
     digits_not_taken _ _ _ l _ c.requires.0 (slice_octets l c.shared_slice_known-1.given) _ c.takes_digits.ensures (not-true _ c.if-not-takes_digits.true-raw) _
 
 pub returns-then-not-put_digits : goal.returns-then-not-put_digits
-returns-then-not-put_digits c = let k = c in
-    let l = c.args.stored.now in
-    digits_not_packed _ _ _ l _ c.requires.0 (slice_octets l c.shared_slice_known-1.given) _ k.takes_digits.ensures (not-false _ k.if-not-takes_digits.false-raw) _ _ (rw k.from-n.ensures at c.put_digits.ensures) (not-true _ c.if-not-put_digits.true-raw)
+returns-then-not-put_digits c = let l = c.args.stored.now in
+    digits_not_packed _ _ _ l _ c.requires.0 (slice_octets l c.shared_slice_known-1.given) _ c.takes_digits.ensures (not-false _ c.if-not-takes_digits.false-raw) _ _ (rw c.from-n.ensures at c.put_digits.ensures) (not-true _ c.if-not-put_digits.true-raw)
 
 pub returns : goal.returns
-returns c = let k = c in
-    let l = c.args.stored.now in
-    digits_packed _ _ _ l _ c.requires.0 (slice_octets l c.shared_slice_known-1.given) _ k.takes_digits.ensures (not-false _ k.if-not-takes_digits.false-raw) _ _ (rw k.from-n.ensures at c.put_digits.ensures) (not-false _ c.if-not-put_digits.false-raw) _ k.from-n.ensures
+returns c = let l = c.args.stored.now in
+    digits_packed _ _ _ l _ c.requires.0 (slice_octets l c.shared_slice_known-1.given) _ c.takes_digits.ensures (not-false _ c.if-not-takes_digits.false-raw) _ _ (rw c.from-n.ensures at c.put_digits.ensures) (not-false _ c.if-not-put_digits.false-raw) _ c.from-n.ensures

@@ -23,6 +23,5 @@ pub put_profile-requires : goal.put_profile-requires
 put_profile-requires c = let p = held c in (p.some, omega (arith, p.few, c.requires))
 
 pub returns : goal.returns
-returns c = let k = c in
-    let l = k.args.stored.now in
-    profile_put _ _ l _ (slice_octets l k.shared_slice_known-1.given) k.if-code-ne-QOS.false (sym k.holds_qos.ensures ∙ not-false _ k.if-not-holds_qos.false-raw) _ k.requires c.put_profile.ensures
+returns c = let l = c.args.stored.now in
+    profile_put _ _ l _ (slice_octets l c.shared_slice_known-1.given) c.if-code-ne-QOS.false (sym c.holds_qos.ensures ∙ not-false _ c.if-not-holds_qos.false-raw) _ c.requires c.put_profile.ensures

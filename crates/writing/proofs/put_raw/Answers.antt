@@ -1,18 +1,8 @@
 -- No such value, or the value with what stands behind it, or the value alone. Assumes nothing.
-use borrow.Author.Tests.{not-true, not-false}
+use borrow.Author.Tests.{not-false}
 use mathlib.Core.Path.{sym, ◌∙◌}
-use lib.Seq.{length-take-le}
-use Rattle.writing.proofs.Valuing.{laying_none, raw_sixteen, raw_alone}
+use Rattle.writing.proofs.Valuing.{raw_sixteen, raw_alone}
 use Rattle.writing.proofs.put_raw.Goals as goal
-
-pub slice_bounds-is_raw-end : goal.slice_bounds-is_raw-end
-slice_bounds-is_raw-end c = sym (length-take-le _ _ c.requires.0)
-
-pub returns-then-not-is_raw : goal.returns-then-not-is_raw
-returns-then-not-is_raw c = laying_none _ _ _ _ _ (sym c.is_raw.ensures ∙ not-true _ c.if-not-is_raw.true-raw)
-
-pub slice_bounds-copy_long-end : goal.slice_bounds-copy_long-end
-slice_bounds-copy_long-end c = sym (length-take-le _ _ c.requires.0)
 
 pub returns-then-size-le16 : goal.returns-then-size-le16
 returns-then-size-le16 c = let p = c.requires in

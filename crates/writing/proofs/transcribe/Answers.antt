@@ -5,12 +5,9 @@ use Prim.Native.Nat.{ℕ, ◌+◌, ◌-◌, min}
 use native.Mathlib.Omega.{arith}
 use Rattle.octets.proofs.Parts.{slice_octets}
 use Rattle.writing.proofs.Entries.{size_is, size_within, behind_head, behind_within, carried_low, attributed_here}
-use Rattle.writing.proofs.Transcribing.{transcribing_none, transcribing_more, put_short}
+use Rattle.writing.proofs.Transcribing.{transcribing_none, transcribing_more}
 use Rattle.writing.proofs.Transcribing.{transcribing_refused, transcribing_23, transcribing_22, transcribing_all}
 use Rattle.writing.proofs.transcribe.Goals as goal
-
-pub overflow_sub-last : goal.overflow_sub-last
-overflow_sub-last c = omega (arith, c.requires.1)
 
 pub loop-item-init : goal.loop-item-init
 loop-item-init c =
@@ -46,22 +43,12 @@ put_attribute-requires c =
     let o = slice_octets c.args.sheet.now c.type_inv.sheet in
     (carried_low _ _ o _ c.head_at.ensures _ c.in_ok-head.was, (size_is _ _ o _ c.head_at.ensures _ c.in_ok-head.was, (size_within _ _ o _ c.head_at.ensures _ c.in_ok-head.was, omega (arith, c.loop-item.invariant.1, c.requires.1, c.min-at.ensures))))
 
-pub shape_of-buf-in_default : goal.shape_of-buf-in_default
-shape_of-buf-in_default c = c.put_attribute.auto.buf ∙ c.loop-item.invariant.1
-
 pub returns-in_default : goal.returns-in_default
 returns-in_default c =
     let o = slice_octets c.args.sheet.now c.type_inv.sheet in
     rw c.broken.ensures
     (transcribing_23 _ _ _ _ _ c.loop-item.invariant.0 (omega (arith, c.loop-item-test.true)) o _ c.head_at.ensures _ c.in_ok-head.was _ _ _ (attributed_here _ _ o _ c.head_at.ensures _ c.in_ok-head.was _ _ _ _ c.put_attribute.ensures)
     c.in_default.is)
-
-pub overflow_add-written : goal.overflow_add-written
-overflow_add-written c =
-    let o = slice_octets c.args.sheet.now c.type_inv.sheet in
-    let i = c.loop-item.invariant.0 in
-    omega
-    (arith, put_short _ _ _ _ _ i (omega (arith, c.loop-item-test.true)) o _ c.head_at.ensures _ c.in_ok-head.was _ _ _ (attributed_here _ _ o _ c.head_at.ensures _ c.in_ok-head.was _ _ _ _ c.put_attribute.ensures) _ c.in-Some.is, i.few, c.loop-item-test.true)
 
 pub loop-item-preserved : goal.loop-item-preserved
 loop-item-preserved c =
@@ -72,16 +59,10 @@ loop-item-preserved c =
     (c.min-at.ensures ∙ ap (λ (n : ℕ). min c.loop-item.written (n - 263)) (sym c.loop-item.invariant.1)) in
     (rw one at on, c.put_attribute.auto.buf ∙ c.loop-item.invariant.1)
 
-pub shape_of-buf-then-place-sheet : goal.shape_of-buf-then-place-sheet
-shape_of-buf-then-place-sheet c = c.loop-item.invariant.1
-
 pub returns-then-place-sheet : goal.returns-then-place-sheet
 returns-then-place-sheet c =
     rw c.broken-then-place-sheet.ensures
     (transcribing_22 _ _ _ _ _ c.loop-item.invariant.0 (omega (arith, c.loop-item-test.false)) c.if-place-sheet.true)
-
-pub shape_of-buf : goal.shape_of-buf
-shape_of-buf c = c.loop-item.invariant.1
 
 pub returns : goal.returns
 returns c =
