@@ -12,7 +12,7 @@ use std::io::{Error, Read, Result};
 // ---- The status
 
 // How a run ends: each input has its answer, or it was at fault (refused, short, broken, or with breaches), or something could not be
-// read or written.
+// read or written. `filing::Outcome` is another: what came of filings, of which `filing` proves which is worse and how it is told.
 #[derive(Clone, Copy, Debug, PartialEq, Eq)]
 pub enum Status {
     Answered,

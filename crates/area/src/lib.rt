@@ -18,7 +18,7 @@ pub struct Refusal {
     pub second: usize,
 }
 
-// A part of an area.
+// A part of an area, as start and length: the form that is asked for of a sheet's item (docs/TRACE.md, "Item struct holds a value enum").
 #[derive(Clone, Copy)]
 pub struct Part {
     pub start: usize,
@@ -27,6 +27,7 @@ pub struct Part {
 
 // An attribute at a place of an area: the number that it carries, 0 to 255 for a plain one and 256 more than the sub-attribute's for a
 // 3GPP one, its value and the place behind it.
+// The number is no enum: each of the 512 is carried, also where the book has no line for it, and the table is looked up by it.
 #[derive(Clone, Copy)]
 pub struct Carried {
     pub number: u16,
@@ -51,7 +52,7 @@ fn gpp(s: u8) -> u16
     256 + (s as u16)
 }
 
-// A refusal at a place.
+// A refusal at a place. `item` has the like for a head: one over both would be public, with a type for what is not there, no plainer.
 fn refused(number: u32, place: usize) -> Step
     ensures { result ≡ step_of place (meant.refused number) }
 {
@@ -159,11 +160,11 @@ pub fn head_len(number: u16) -> usize
 fn rest(size: usize, head: usize) -> usize
     ensures { result ≡ size - head }
 {
-    if size < head { 0 } else { size - head }
+    size.saturating_sub(head)
 }
 
 // What an area that is known to be well framed carries at a place, with none of the tests of `step_at`; nothing at its end: a `Carried` of
-// no octets and no Option, since the search that asks never comes to the end, and would take it apart at each turn.
+// no octets and no Option, since it promises one for every place (`carried_at` in specs/Answers), and what cannot fail shall not begin to.
 pub fn carried_at(area: &[u8], place: usize) -> Carried
     ensures { result ≡ carried_at area.now place }
 {

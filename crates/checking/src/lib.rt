@@ -30,7 +30,8 @@ const WANTABLE: [u16; 6] = [2, 3, 4, 25, PDP_TYPE, 60];
 // So many entries have room in the first pass.
 const FEW: usize = 32;
 
-// What comes with an area: the kind and flags of its message, and the kind's row of the presence table.
+// What comes with an area: the kind and flags of its message, the numbers that they came as and of which the book's `comes` speaks, and the
+// kind's row of the presence table.
 #[derive(Drop)]
 struct Message {
     kind: u32,
@@ -247,7 +248,7 @@ impl Message {
 
     // Lays what the attributes of an area break, from the left, and notes the numbers seen. Rule 3, "an earlier attribute": a walk from
     // the area's start, left at the first equal number; a number that was not seen is not searched for. The
-    // search is written out and left by its label: that form is asked for by name.
+    // search is written out and left by its label: that form is asked for by name (docs/TRACE.md, "left by a label at").
     fn along(&self, area: &[u8], seen: &mut [bool; 512], list: &mut [u32]) -> Result<usize, Refusal>
         requires { length area.now ≤ 4076 × Notes seen.old [] }
         ensures { AlongSays (comes self.now.kind self.now.flags) area.now list.old result list.new seen.new }

@@ -64,8 +64,8 @@ fn read(rt: HostRuntime, buf: &mut [u8]) -> Result<usize, Trouble>
     })
 }
 
-// Passes over octets of the input. Where not all of them are there, the record is broken. The loop is written out, since no method of std
-// passes over octets of a reader by reads of this size.
+// Passes over octets of the input. Where not all of them are there, the record is broken. No `io::copy` into a sink: it reads again where
+// a read was interrupted, and that is told here.
 fn skip(rt: HostRuntime, count: usize) -> Result<(), Ending> {
     let mut chunk = streams::large_buffer();
     let mut left = count;
@@ -99,7 +99,7 @@ fn write_broken(rt: HostRuntime, number: u64) -> Result<(), Trouble> {
 
 // ---- What is read
 
-// A record, of whose payload of `all` octets some are kept.
+// A record, of whose payload of `all` octets some are kept. Its job is an octet, as `printing::record` promises a line for every one.
 #[derive(Clone, Copy)]
 struct Record<'a> {
     job: u8,

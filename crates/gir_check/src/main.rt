@@ -13,7 +13,7 @@ use std::io::{Print, Result};
 // Room for the lines of the longest list.
 const LINES: usize = 9 * desk::LONGEST_LIST;
 
-// The status of an answer: there is no breach where it has no octets.
+// The status of an answer: there is no breach where it has no octets. By their number: `printing::check` promises no more than the octets.
 fn status_of(n: usize) -> Status
     ensures { result ≡ status_of n }
 {

@@ -31,7 +31,8 @@ const LINE: usize = 8192;
 // Room for what is read ahead of standard input.
 const AHEAD: usize = 65536;
 
-// The system's errors where nothing stands at a path, where what stands there is no link, and where no file is open.
+// The system's errors where nothing stands at a path, where what stands there is no link, and where no file is open: by their
+// numbers, since one of std's kinds stands for several, and what is shown is the text of the number.
 const ENOENT: i32 = 2;
 
 const EINVAL: i32 = 22;
@@ -40,7 +41,7 @@ const EBADF: i32 = 9;
 
 // ---- Octets in a buffer
 
-// Octets in a buffer with room for N.
+// Octets in a buffer with room for N. No `lines::Text`, of which all fifty octets are promised, for the room of each is another here.
 #[derive(Drop)]
 struct Held<const N: usize> {
     room: [u8; N],
@@ -447,7 +448,8 @@ impl Filing<'_> {
         Ok(())
     }
 
-    // The word for a step that went badly, and the file at which it did. Of the steps in the last line none does so with a reason.
+    // The word for a step that went badly, and the file at which it did. Of the steps in the last line none does so with a
+    // reason, so no Option: an answer with no word would be one that is never given.
     fn at_fault(&self, step: Step) -> (&'static [u8], &[u8]) {
         match step {
             Step::Take => (b"in", self.input),
@@ -522,6 +524,7 @@ fn answer(rt: HostRuntime, input: &[u8], out: &[u8]) -> Result<Outcome, Over> {
         taken: Held::new(),
         all: 0,
         sheet: Held::new(),
+        // what is answered if no step says anything else
         said: Said {
             line: Text::new(),
             outcome: Outcome::Trouble,
@@ -749,6 +752,8 @@ fn answer_asked(rt: HostRuntime, before: usize) -> Outcome
     Outcome::Trouble
 }
 
+// Not by `answering::told`: that tells a status of its own, and what is told here is an outcome's digit as `filing::digit` promises it. One
+// over both would need a trait for these four lines, and be no plainer.
 fn main(rt: HostRuntime) {
     if streams::is_word(rt, 1, b"--status") {
         let outcome = answer_asked(rt, 2);

@@ -9,7 +9,8 @@ ghost use Rattle.gir_read.specs.Told.{told, status_of};
 use answering::{Input, Job, Status};
 use std::io::{Print, Result};
 
-// The status of an answer: a sheet begins with a capital letter, a line with a small one.
+// The status of an answer: a sheet begins with a capital letter, a line with a small one. By the octets, as all that `printing::read`
+// promises is which they are.
 fn status_of(first: u8) -> Status
     ensures { result ≡ status_of first }
 {

@@ -20,7 +20,7 @@ const ANSWER: usize = 2 + desk::LONGEST_AREA;
 struct Writing;
 
 // The status of an answer of so many octets: where there are none the sheet is not judged; an area has its kind before it, 1 to 6, and a
-// line begins with a letter.
+// line begins with a letter. By the octets, as all that `printing::write` promises is which they are.
 fn status_of(n: usize, first: u8) -> Status
     ensures { result ≡ status_of n first }
 {

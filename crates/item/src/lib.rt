@@ -13,7 +13,7 @@ ghost use Rattle.item.specs.Answers.{headed_at, head_refused};
 use area::Refusal;
 
 // What the head of an item says: the number that it carries, 0 to 255 for a plain one and 256 more than the sub-attribute's for a 3GPP
-// one, its form and count, and the place behind the octets it stores.
+// one, its form and count, the octets that stand there, of which any may, and the place behind the octets it stores.
 #[derive(Clone, Copy)]
 pub struct Head {
     pub number: u16,
@@ -88,8 +88,7 @@ pub fn takes_digits(code: u8, count: u8) -> bool
 pub fn is_raw(number: u16, code: u8, form: u8, value: &[u8]) -> bool
     ensures { result ≡ raw number code form value.now }
 {
-    let plain: u8 = if number < 256 { 0 } else { 1 };
-    if form != plain {
+    if form != shape::plain_form(number) {
         return false;
     }
     // A shape whose code is below that of a number has no form of its own that the value could take.

@@ -27,7 +27,7 @@ pub struct Account {
     pub total: u64,
 }
 
-// The ledger's state: whether a session is open, its id, and an account of each counter.
+// The ledger's state: whether a session is open, its id, which stays when it is closed and so is no Option, and an account of each counter.
 #[derive(Clone, Copy, PartialEq, Eq, Default)]
 pub struct Ledger {
     pub opened: bool,
@@ -51,7 +51,8 @@ struct Firsts {
     output_packets: Option<usize>,
 }
 
-// What a sheet tells a ledger: its reading of each counter and its session id, where it has them.
+// What a sheet tells a ledger: its reading of each counter and its session id, where it has them. Beside `Firsts`, since an id is
+// wider than a reading: one struct for both would have two types to be told.
 #[derive(Clone, Copy)]
 struct Told {
     input_octets: Option<u32>,

@@ -1,14 +1,15 @@
--- A number in decimal, spelt from its last digit to its first: the loop, the length, and the equations that one expects. Assumes nothing.
+-- A number in decimal: the length, the equations that one expects, and that the library spells it alike. Assumes nothing.
 use mathlib.Core.Path.{◌≡◌, refl, sym, ap, ◌∙◌}
 use mathlib.Core.Bool.{Bool, true, false, cond}
-use mathlib.Core.List.{List, [], ◌∷◌, ◌++◌, append_assoc, append-nil}
-use Prim.Native.Nat.{ℕ, zero, suc, ◌+◌, ◌*◌, ◌-◌, ◌/◌, ◌%◌, ◌^◌, ◌<◌, ◌≤◌}
+use mathlib.Core.List.{List, [], ◌∷◌, ◌++◌}
+use Prim.Native.Nat.{ℕ, zero, suc, ◌+◌, ◌/◌, ◌%◌, ◌^◌, ◌<◌, ◌≤◌}
 use native.Mathlib.Nat.{pow-suc}
 use native.Mathlib.Omega.{arith}
 use borrow.Author.Tests.{le-leb, lt-leb, leb-true, leb-false}
 use lib.Dec.{leb}
-use lib.ListN.{length, take, drop, length-drop, set, length-append, length-set, drop_of_length-le}
-use lib.Seq.{take_all, drop-cons, drop-set-lt, get_or-set_same, lt-length-set}
+use lib.ListN.{length, length-append}
+use Rattle.std.specs.Fmt as Library
+use Rattle.std.proofs.lemmas.Fmt.{decimal_by_steps}
 use Rattle.lines.specs.Lines.{decimal_in, decimal}
 
 -- up to 9 a number is its digit
@@ -61,61 +62,17 @@ pub decimal_length : (n : ℕ) → length (decimal n) ≤ 20
 unfolding decimal
 decimal_length n = decimal_in_length 20 n
 
--- ---- The loop
+-- ---- The library's spelling
 
--- behind the place `from` stand the last digits of n, and `rest` is what is left to spell
-pub record Spelling (n : ℕ) (out : List ℕ) (from rest : ℕ) : Type 0 where
-  pub size : length out ≡ 20
-  pub within : from ≤ 19
-  pub small : rest < 10 ^ suc from
-  pub is : decimal n ≡ decimal_in (suc from) rest ++ drop (suc from) out
+-- the library spells every number of 64 bits alike
+pub library_decimal : (n : ℕ) → n < 2 ^ 64 → Library.decimal n ≡ decimal n
+library_decimal n small = decimal_by_steps (λ m ds. m < 2 ^ 64 → ds ≡ decimal m) one more n small small
+  where
+    one : (m : ℕ) → m < 10 → m < 2 ^ 64 → (48 + m) ∷ [] ≡ decimal m
+    one m l h = ap (λ (x : ℕ). x ∷ []) (omega arith) ∙ sym (decimal_up_to_9 m (omega arith))
 
-pub spelling_none : (n : ℕ) (out : List ℕ) → n < 2 ^ 64 → length out ≡ 20 → Spelling n out 19 n
-unfolding decimal
-spelling_none n out h size =
-    let none : drop 20 out ≡ [] = drop_of_length-le out {i = 20} (omega arith) in
-    record {
-      size = size;
-      within = omega arith;
-      small = omega arith;
-      is = sym (ap (λ (t : List ℕ). decimal_in 20 n ++ t) none ∙ append-nil (decimal_in 20 n));
-    }
-
--- what stands from a place on, once that place is set
-put_here : (out : List ℕ) (at x : ℕ) → at < length out → drop at (set out at x) ≡ x ∷ drop (suc at) out
-put_here out at x h =
-    drop-cons (set out at x) at 0 (lt-length-set out at x h)
-    ∙ ap (λ (y : ℕ). y ∷ drop (suc at) (set out at x)) (get_or-set_same out at x 0 h)
-    ∙ ap (λ (t : List ℕ). x ∷ t) (drop-set-lt (suc at) out at x (omega arith))
-
--- where two digits or more are left, there is a place before this one
-pub spelling_room : (n : ℕ) (out : List ℕ) (from rest : ℕ) → Spelling n out from rest → 9 < rest → 0 < from
-spelling_room n out zero rest u h = let s : rest < 10 ^ 1 = u.small in absurd (omega arith)
-spelling_room n out (suc w) rest u h = omega arith
-
-pub spelling_more : (n : ℕ) (out : List ℕ) (from rest : ℕ) → Spelling n out from rest → 9 < rest
-    → Spelling n (set out from (rest % 10 + 48)) (from - 1) (rest / 10)
-spelling_more n out zero rest u h = let s : rest < 10 ^ 1 = u.small in absurd (omega arith)
-spelling_more n out (suc w) rest u h =
-    let d : ℕ = rest % 10 + 48 in
-    let one_less : suc w - 1 ≡ w = omega arith in
-    let tens : 10 ^ suc (suc w) ≡ 10 ^ suc w * 10 = pow-suc 10 (suc w) in
-    let here : drop (suc w) (set out (suc w) d) ≡ d ∷ drop (suc (suc w)) out = put_here out (suc w) d (omega (arith, u.size, u.within)) in
-    rw one_less
-    (record {
-      size = length-set out (suc w) d ∙ u.size;
-      within = omega (arith, u.within);
-      small = omega (arith, u.small);
-      is = u.is
-          ∙ ap (λ (t : List ℕ). t ++ drop (suc (suc w)) out) (decimal_more (suc w) rest h)
-          ∙ append_assoc (decimal_in (suc w) (rest / 10)) (d ∷ []) (drop (suc (suc w)) out)
-          ∙ ap (λ (t : List ℕ). decimal_in (suc w) (rest / 10) ++ t) (sym here);
-    })
-
-pub spelling_all : (n : ℕ) (out : List ℕ) (from rest : ℕ) → Spelling n out from rest → rest ≤ 9
-    → take (20 - from) (drop from (set out from (rest + 48))) ≡ decimal n
-spelling_all n out from rest u h =
-    let size : length (set out from (rest + 48)) ≡ 20 = length-set out from (rest + 48) ∙ u.size in
-    take_all (20 - from) (drop from (set out from (rest + 48))) (omega (arith, length-drop from (set out from (rest + 48))))
-    ∙ put_here out from (rest + 48) (omega (arith, u.size, u.within))
-    ∙ sym (u.is ∙ ap (λ (t : List ℕ). t ++ drop (suc from) out) (decimal_one from rest h))
+    more : (m : ℕ) (ds : List ℕ) → 10 ≤ m → (m / 10 < 2 ^ 64 → ds ≡ decimal (m / 10)) → m < 2 ^ 64 → ds ++ ((48 + m % 10) ∷ []) ≡ decimal m
+    more m ds l i h =
+        ap (λ (t : List ℕ). t ++ ((48 + m % 10) ∷ [])) (i (omega arith))
+        ∙ ap (λ (x : ℕ). decimal (m / 10) ++ (x ∷ [])) (omega arith)
+        ∙ sym (decimal_above_9 m (omega arith) h)

@@ -58,25 +58,16 @@ impl Text {
         self
     }
 
-    // The text with a number in decimal behind it, if it fits; else as it was. The digits are laid from the last to the first, which no
-    // iterator of the library does that stops at the first.
+    // The text with a number in decimal behind it, if it fits; else as it was.
     pub fn with_decimal(self, n: u64) -> Self
         ensures { result ≡ followed self (decimal n) }
     {
-        let mut octets = [0u8; 20];
-        let mut from: usize = 19;
-        let mut rest = n;
-        while 9 < rest {
-            octets[from] = (rest % 10) as u8 + 48;
-            rest /= 10;
-            from -= 1;
-        }
-        octets[from] = rest as u8 + 48;
-        self.with(&octets[from..])
+        self.with(itoa::Buffer::new().format(n).as_bytes())
     }
 }
 
-// The line of a refusal, by its number and second number.
+// The line of a refusal, by its number and second number. No Display: each octet of the line is promised, and of what a Display writes the
+// library promises nothing.
 pub fn refusal(number: u32, second: u64) -> Text
     ensures { result ≡ refusal_line number second }
 {

@@ -10,23 +10,23 @@ ghost use Rattle.meaning.specs.Answers.{over};
 ghost use Rattle.octets.specs.Parts.{part_of, Numbered, Overlaid, laid_at, Laid};
 ghost use Rattle.octets.specs.DigitStrings.{halves, digits_of, gathered_of, got_of, eight_of, turned_of, below_ten};
 
-// "fifteen digits together with their count" at most: the digits' values, with 15s behind them. Octets and a length by value, a form
-// that is asked for by name.
+// "fifteen digits together with their count" at most: the digits' values, with 15s behind them. Octets and a length by value, and a count
+// of 0 for none: `got_of` says so, and that form is asked for by name (docs/TRACE.md, "fifteen octets and a length").
 #[derive(Clone, Copy)]
 pub struct Digits {
     pub octets: [u8; 15],
     pub len: usize,
 }
 
-// An octet as a number. This and `wide32`, `least` and `equal` are the library's own; they stand for those who call them, with their
-// promises and their wrong edits.
+// An octet as a number. This and `wide32`, `least` and `equal` are the library's own under a name of ours. docs/PROMISES.md lists them as
+// public functions and their wrong edits stand, so they do too.
 pub fn wide(x: u8) -> usize
     ensures { result ≡ x }
 {
     usize::from(x)
 }
 
-// An octet as a number of 32 bits, as kind and flags are handed over.
+// An octet as a number of 32 bits.
 pub fn wide32(x: u8) -> u32
     ensures { result ≡ x }
 {
@@ -99,7 +99,8 @@ pub fn u64_at(s: &[u8], at: usize) -> u64
     number(part(s, at, 8))
 }
 
-// A 16-bit number in two octets.
+// A 16-bit number in two octets. Three widths and three names, here and above: docs/PROMISES.md lists them, and one name for all would
+// need a trait for three lines.
 pub fn u16_octets(n: u16) -> [u8; 2]
     ensures { result ≡ octets_of 2 n }
 {
@@ -181,7 +182,8 @@ fn copy_few(buf: &mut [u8], src: &[u8])
     }
 }
 
-// The same as `copy_at`, where `src` may be long.
+// The same as `copy_at`, where `src` may be long: a public function of docs/PROMISES.md, which had blocks of its own before the library
+// copied long slices as fast.
 pub fn copy_long(buf: &mut [u8], at: usize, src: &[u8]) -> bool
     ensures { Laid at src.now buf.old result buf.new }
 {
@@ -295,7 +297,7 @@ pub fn least(a: usize, b: usize) -> usize
 
 impl Digits {
     // No digits.
-    fn none() -> Digits
+    pub fn none() -> Digits
         ensures { result ≡ digits_of [] }
     {
         Digits {
@@ -418,8 +420,8 @@ fn few_digits(text: &[u8]) -> u64
 }
 
 // The digits of a text of at most 15, two to an octet from the high end of a number on, with 15s behind them; 0 where one is no
-// digit or there are more, which no digits give, so that it needs no Option. None of them goes through memory: 13.8 ns, where a walk
-// over the digits of a text takes 19.
+// digit or there are more, which no digits give (`gathered_of`). As an Option each of the three below would wrap a number that says it
+// already, and be no plainer. None of them goes through memory: 13.8 ns, where a walk over the digits of a text takes 19.
 fn gathered(text: &[u8]) -> u64
     ensures { result ≡ gathered_of text.now }
 {
@@ -545,7 +547,7 @@ pub fn digit_text(n: u8) -> u8
     half + 48 + letter_step(half)
 }
 
-// The halves of `octets` octets, or `count` of them.
+// The halves of `octets` octets, or `count` of them. No `min`, since twice the octets may pass the largest number.
 fn half_count(octets: usize, count: usize) -> usize
     ensures { result ≡ min count (2 * octets) }
 {

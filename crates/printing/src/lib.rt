@@ -193,7 +193,8 @@ fn write_within(sheet: &[u8], room: usize, area: &mut [u8]) -> Result<Written, R
     desk::write(sheet, &mut area[..open])
 }
 
-// ---- The lines of a batch
+// ---- The lines of a batch. Here and under "The programs" each job has its own: the buffer, the promise and how what is made is laid
+// differ, and one over them would be told all three.
 
 // Job `R`.
 fn read_line(given: &[u8], all: usize, room: usize, sheet: &mut [u8], out: &mut [u8]) -> usize

@@ -69,7 +69,8 @@ pub const ANY_OCTET: u8 = 71;
 
 pub const DECIMAL_DIGIT: u8 = 72;
 
-// An item's value, "either a number, an address, digits" or octets as they stand, a part of the area; the digits stand beside it.
+// An item's value, "either a number, an address, digits" or octets as they stand, a part of the area. The digits stand beside it: that form
+// is asked for by name (docs/TRACE.md, "digits stand beside it").
 #[derive(Clone, Copy)]
 pub enum Value {
     Number(u32),
@@ -79,7 +80,7 @@ pub enum Value {
 }
 
 // An item of the sheet: the number that it carries, 0 to 255 for a plain one and 256 more than the sub-attribute's for a 3GPP one,
-// its form and count, its value, and the digits in form 4. The form is the octet that stands in the sheet, where any octet may stand.
+// its form and count, its value, and the digits in form 4. The form is the octet that stands in the sheet, as `item_for` says it.
 #[derive(Clone, Copy)]
 pub struct Item {
     pub number: u16,
@@ -240,9 +241,9 @@ pub fn meets_code(code: u8, value: &[u8]) -> bool
     }
 }
 
-// Whether a value meets the shape of a carried number. It is no `meets_code` of `code_of`: by the code a message takes another jump an
-// attribute, and the forms of one code would have to be told apart again. Here and in `item_of`, but for digits there, the even and the
-// odd numbers of a shape have an arm each: neighbours in one arm would be tested as a range, behind all the others.
+// Whether a value meets the shape of a carried number. It is no `meets_code` of `code_of`: so a message was checked in 373 ns in place
+// of 315, and written in 352 in place of 306. Here and in `item_of`, but for digits there, the even and the odd numbers of a shape have an
+// arm each: neighbours in one arm would be tested as a range, behind all the others.
 pub fn meets(number: u16, value: &[u8]) -> bool
     ensures { result ≡ meant.meets current (shape_of number) value.now }
 {
@@ -269,7 +270,7 @@ pub fn meets(number: u16, value: &[u8]) -> bool
 }
 
 // The form of a value that stands as it is.
-fn plain_form(number: u16) -> u8
+pub fn plain_form(number: u16) -> u8
     ensures { result ≡ cond (is_plain number) 0 1 }
 {
     if number < 256 { 0 } else { 1 }
@@ -290,16 +291,12 @@ fn octet_of(code: u8, x: u8) -> u32
 fn undigited_item(number: u16, form: u8, count: usize, value: Value) -> Item
     ensures { result ≡ undigited number form count value }
 {
-    let digits = octets::Digits {
-        octets: [15u8; 15],
-        len: 0,
-    };
     Item {
         number,
         form,
         count,
         value,
-        digits,
+        digits: octets::Digits::none(),
     }
 }
 

@@ -15,7 +15,7 @@ use std::rt::Env;
 // The descriptor that a status is written to.
 const STATUS_FILENO: i32 = 3;
 
-// The system's error where a name is longer than there is room.
+// The system's error where a name is longer than there is room: by its number, whose text is what is shown.
 const TOO_LONG: i32 = 36;
 
 // ---- Reading
@@ -61,7 +61,8 @@ fn more<R: Read>(from: &mut R) -> Result<usize>
     from.read(&mut buf)
 }
 
-// Counts the input to its end, with the octets had already; at most the largest 64-bit number.
+// Counts the input to its end, with the octets had already; at most the largest 64-bit number. No `io::copy` into a sink: it reads again
+// where a read was interrupted, and that is told here.
 pub fn count<R: Read>(from: &mut R, had: u64) -> Result<u64>
     ensures least { IfOk result (λ n. had ≤ n) }
     ensures all { IfOk result (λ n. IfSome (R.remaining from.old) (λ xs. n ≡ min (had + length xs) (2 ^ 64 - 1))) }

@@ -1,13 +1,13 @@
 -- What the writers of an attribute lay over a buffer: its head, and the text of a QoS profile; and the mark of a sheet. Assumes
 -- nothing.
 use mathlib.Core.Path.{◌≡◌, refl, sym, ap, ◌∙◌}
-use mathlib.Core.Bool.{Bool, true, false, cond, ◌&&◌, and-true}
+use mathlib.Core.Bool.{Bool, true, false, cond}
 use mathlib.Core.List.{List, [], ◌∷◌, ◌++◌, append_assoc}
 use Prim.Native.Nat.{ℕ, zero, suc, ◌+◌, ◌*◌, ◌-◌, ◌/◌, ◌%◌, ◌<◌, ◌≤◌}
 use native.Mathlib.Nat.{zero-add, suc-add}
 use native.Mathlib.Omega.{arith}
-use lib.Dec.{eqb, ltb}
-use borrow.Author.Tests.{lt-ltb, le-ltb, le-leb, lt-leb}
+use lib.Dec.{ltb}
+use borrow.Author.Tests.{lt-ltb, le-ltb, lt-leb}
 use lib.ListN.{length, take, drop, get_or, set, length-drop, length-set}
 use lib.Seq.{take_all, take-suc, length-take-le}
 use Rattle.meaning.specs.Octets.{digit_text, text, unpack, octets_of}
@@ -107,13 +107,3 @@ profile_laid st r tens ones at buf first out t o q some room f h =
 pub unmarked : (l : List ℕ) → length l < 9 → false ≡ marked l
 unfolding marked octets_of
 unmarked l h = rw (lt-leb 9 (length l) h)
-
-pub mark_tested : (l : List ℕ) → 9 ≤ length l
-    → eqb (get_or l 0 0) 71 && (eqb (get_or l 1 0) 73 && (eqb (get_or l 2 0) 82 && (eqb (get_or l 3 0) 0 && eqb (get_or l 4 0) 1))) ≡ marked l
-unfolding marked octets_of
-mark_tested [] h = absurd (omega arith)
-mark_tested (a ∷ []) h = absurd (omega arith)
-mark_tested (a ∷ b ∷ []) h = absurd (omega arith)
-mark_tested (a ∷ b ∷ c ∷ []) h = absurd (omega arith)
-mark_tested (a ∷ b ∷ c ∷ d ∷ []) h = absurd (omega arith)
-mark_tested (a ∷ b ∷ c ∷ d ∷ e ∷ l) h = rw (le-leb 9 (length (a ∷ b ∷ c ∷ d ∷ e ∷ l)) h, and-true (eqb e 1))

@@ -36,7 +36,8 @@ const SHORT_AREA: usize = 377;
 
 const SHORT_ROOM: usize = 640;
 
-// What is said of a sheet that is written: the octets of its area, with the kind and flags that stand in the sheet.
+// What is said of a sheet that is written: the octets of its area, with the kind and flags, the octets that stand in the sheet and that C
+// is handed.
 #[derive(Clone, Copy)]
 pub struct Written {
     pub length: usize,
@@ -174,7 +175,7 @@ fn put_qos(buf: &mut [u8], at: usize, code: u8, stored: &[u8]) -> Option<usize>
 }
 
 // Lays a value that stands as it is, the first `size` octets of `rest`, and gives its octets; `None` where no readable attribute gives
-// the item. A short one goes with what stands behind it.
+// the item. A short one goes with what stands behind it, sixteen octets at once: so `size` stands beside `rest` and does not cut it.
 fn put_raw(
     buf: &mut [u8],
     at: usize,
@@ -258,8 +259,7 @@ fn is_marked(sheet: &[u8]) -> bool
     if sheet.len() < 9 {
         return false;
     }
-    (sheet[0] == b'G')
-        & ((sheet[1] == b'I') & ((sheet[2] == b'R') & ((sheet[3] == 0) & (sheet[4] == 1))))
+    octets::equal(&sheet[..5], &[b'G', b'I', b'R', 0, 1])
 }
 
 // 22 or 23, at a place of a sheet.
@@ -405,7 +405,8 @@ fn hand_over(written: Written, made: &[u8], area: &mut [u8]) -> Result<Written, 
 }
 
 // Write: what a sheet was read from, the area at the buffer's start; a refusal leaves the buffer as it was. An area that the
-// short buffer has no room for is made again: so the two buffers have a way each, one of which may give up.
+// short buffer has no room for is made again: so the two buffers have a way each, one of which may give up, and a function of the room, as
+// reading has, would tell that to its caller by one more Option.
 pub fn write(sheet: &[u8], area: &mut [u8]) -> Result<Written, Refusal>
     ensures { Wrote sheet.now area.old result area.new }
 {

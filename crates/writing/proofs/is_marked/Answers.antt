@@ -1,10 +1,15 @@
--- Too few octets, or the mark and the version, octet by octet. Assumes nothing.
+-- Too few octets, or the mark and the version. Assumes nothing.
 use native.Mathlib.Omega.{arith}
-use Rattle.writing.proofs.Putting.{unmarked, mark_tested}
+use lib.ListN.{length}
+use borrow.Author.Tests.{le-leb}
+use Rattle.meaning.specs.Octets.{octets_of}
+use Rattle.meaning.specs.Sheet.{marked}
+use Rattle.writing.proofs.Putting.{unmarked}
 use Rattle.writing.proofs.is_marked.Goals as goal
 
 pub returns-then-sheet-lt9 : goal.returns-then-sheet-lt9
 returns-then-sheet-lt9 c = unmarked _ (omega arith)
 
 pub returns : goal.returns
-returns c = mark_tested _ (omega arith)
+unfolding marked octets_of
+returns c = rw (le-leb 9 (length c.args.sheet.now) (omega arith)) c.equal.ensures
