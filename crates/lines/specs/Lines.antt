@@ -4,6 +4,7 @@ use Rattle.std.specs.Prelude.{◌≡◌, ℕ, zero, suc, ◌+◌, ◌-◌, ◌/�
 use Rattle.meaning.specs.Octets.{octets_of, unpack, text}
 use Rattle.octets.specs.Parts.{fits_at, laid_at}
 use Rattle.octets.specs.DigitStrings.{padded}
+use Rattle.lines.specs.declared.Text.{Text}
 
 -- ---- Numbers
 
@@ -57,10 +58,14 @@ second_told n s all = cond (eqb n 3) (all - 2) s
 
 -- ---- A text that is being made
 
--- fifty octets: those of a text, with zeros behind them
-unfoldable pub padded_text : List ℕ → List ℕ
-padded_text l = padded 50 0 l
+-- octets with zeros behind them, and how many they are
+unfoldable pub text_of : List ℕ → Text
+text_of l = record { octets = padded 50 0 l; len = length l }
 
--- a text with octets behind it, if all are at most fifty; else the text as it was
-unfoldable pub followed : (text behind : List ℕ) → List ℕ
-followed t s = cond (leb (length t + length s) 50) (t ++ s) t
+-- a text with octets behind it, if they fit; else the text as it was
+unfoldable pub followed : Text → List ℕ → Text
+followed t s =
+    record {
+      octets = laid_at t.len s t.octets;
+      len = cond (fits_at t.len s t.octets) (t.len + length s) t.len;
+    }

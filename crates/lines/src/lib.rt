@@ -2,37 +2,23 @@
 // Nothing here prints. Each public function takes any arguments.
 #![tactic(auto)]
 
-ghost use Rattle.std.specs.Prelude.{ℕ, ◌≡◌, ◌*◌, ◌≤◌, List, [], length, take};
-ghost use Rattle.std.proofs.Common.{sym};
+ghost use Rattle.std.specs.Prelude.{◌≡◌, ◌*◌, ◌≤◌, [], length, take};
 ghost use Rattle.meaning.specs.Answers.{over};
-ghost use Rattle.lines.specs.Lines.{decimal, refusal_line, entry_with, entries_with, StartLaid, second_told, padded_text, followed};
+ghost use Rattle.octets.specs.Parts.{part_of};
+ghost use Rattle.lines.specs.Lines.{decimal, refusal_line, entry_with, entries_with, StartLaid, second_told, text_of, followed};
 
-use std::marker::Model;
-
-// A text of at most fifty octets: no line of a refusal is longer.
+// A text of at most fifty octets and their count: no line of a refusal is longer.
+// Octets and length are public: its functions take any text, and docs/PROMISES.md names them; no Model, whose invariant would ask more.
 #[derive(Clone, Copy)]
 pub struct Text {
-    octets: [u8; 50],
-    len: usize,
-}
-
-// Clauses see the octets of the text. Behind them stand zeros, so that the octets say all of it, and it may be copied.
-impl Model for Text {
-    ghost Value = { List ℕ };
-
-    ghost view = { λ t. take t.len t.octets };
-
-    ghost invariant = { λ t. (t.len ≤ 50) × ((length (take t.len t.octets) ≡ t.len) × (t.octets ≡ padded_text (take t.len t.octets))) };
-
-    ghost inverse = { λ l. record { octets = padded_text l; len = length l } };
-
-    ghost inverse_ok = { λ t h i. record { octets = sym h.1.1 i; len = h.1.0 i } };
+    pub octets: [u8; 50],
+    pub len: usize,
 }
 
 impl Text {
     // A text of no octets.
-    pub fn new() -> Self
-        ensures { result ≡ [] }
+    pub fn new() -> Text
+        ensures { result ≡ text_of [] }
     {
         Text {
             octets: [0; 50],
@@ -42,13 +28,13 @@ impl Text {
 
     // The octets of the text.
     pub fn as_slice(&self) -> &[u8]
-        ensures { result.now ≡ self.now }
+        ensures { result.now ≡ part_of self.now.octets 0 self.now.len }
     {
-        &self.octets[..self.len]
+        octets::part(&self.octets, 0, self.len)
     }
 
     // The text with octets behind it, if they fit; else as it was.
-    pub fn with(mut self, s: &[u8]) -> Self
+    pub fn with(mut self, s: &[u8]) -> Text
         ensures { result ≡ followed self s.now }
     {
         let len = self.len;
@@ -59,7 +45,7 @@ impl Text {
     }
 
     // The text with a number in decimal behind it, if it fits; else as it was.
-    pub fn with_decimal(self, n: u64) -> Self
+    pub fn with_decimal(self, n: u64) -> Text
         ensures { result ≡ followed self (decimal n) }
     {
         self.with(itoa::Buffer::new().format(n).as_bytes())
@@ -69,7 +55,7 @@ impl Text {
 // The line of a refusal, by its number and second number. No Display: each octet of the line is promised, and of what a Display writes the
 // library promises nothing.
 pub fn refusal(number: u32, second: u64) -> Text
-    ensures { result ≡ refusal_line number second }
+    ensures { result ≡ text_of (refusal_line number second) }
 {
     Text::new()
         .with(b"refused ")

@@ -9,14 +9,16 @@ use lib.ListN.{length, take, drop, length-append, length-take}
 use lib.Seq.{take_at, drop-drop, length-take-le, take-append-add, take-append-le, drop-append_seam}
 use Rattle.meaning.specs.Octets.{unpack, text}
 use Rattle.meaning.specs.Answers.{over, Written}
-use Rattle.octets.specs.Parts.{fits_at, laid_at, Laid}
+use Rattle.octets.specs.Parts.{part_of, fits_at, laid_at, Laid}
+use Rattle.octets.specs.DigitStrings.{padded}
 use Rattle.octets.proofs.Overs.{laid_two, laid_first, laid_none, laid_fits, fits_room, over_length}
 use Rattle.octets.proofs.Unpacking.{unpacked_length}
-use Rattle.lines.specs.Lines.{decimal, space, line_feed, entry_digits, entry_with, entries_with, StartLaid, followed}
+use Rattle.lines.specs.declared.Text.{Text}
+use Rattle.lines.specs.Lines.{decimal, space, line_feed, entry_digits, entry_with, entries_with, StartLaid, text_of, followed, refusal_line}
 use Rattle.lines.proofs.Spelling.{decimal_length}
 use Rattle.lines.proofs.Pieces.{then}
 use Rattle.lines.proofs.Listing.{start_laid, start_not_laid, digits_length, entry_length, entries_length, take_least}
-use Rattle.printing.specs.Printed.{not_judged, hex_line, list_line, kind_flags, area_line, open_line, area_octets}
+use Rattle.printing.specs.Printed.{not_judged, refusal_told, hex_line, list_line, kind_flags, area_line, open_line, area_octets}
 
 -- ---- Octets
 
@@ -38,8 +40,22 @@ start_as s t d held said e p = subst (λ (x : List ℕ). StartLaid x d said held
 
 -- ---- Texts
 
-pub kind_flags_pieces : (k f : ℕ) {none a b c r : List ℕ} → none ≡ [] → a ≡ followed none (decimal k) → b ≡ followed a (space ∷ [])
-    → c ≡ followed b (decimal f) → r ≡ followed c (space ∷ []) → r ≡ kind_flags k f
+pub text_shown : (t : Text) (l : List ℕ) → t ≡ text_of l → part_of t.octets 0 t.len ≡ l
+unfolding text_of padded part_of over
+text_shown t l e =
+    ap (λ (x : Text). take x.len x.octets) e ∙ take_at l _ (length l) refl
+
+pub put_line : (t : Text) (l d held : List ℕ) (said : ℕ) → t ≡ text_of l → StartLaid (part_of t.octets 0 t.len) d said held
+    → StartLaid l d said held
+put_line t l d held said e p = start_as (part_of t.octets 0 t.len) l d held said (text_shown t l e) p
+
+pub put_told : (all n s told : ℕ) (t : Text) (d held : List ℕ) (said : ℕ) → t ≡ text_of (refusal_line n told)
+    → refusal_line n told ≡ refusal_told all n s → StartLaid (part_of t.octets 0 t.len) d said held
+    → StartLaid (refusal_told all n s) d said held
+put_told all n s told t d held said e r p = put_line t (refusal_told all n s) d held said (e ∙ ap text_of r) p
+
+pub kind_flags_pieces : (k f : ℕ) {none a b c r : Text} → none ≡ text_of [] → a ≡ followed none (decimal k) → b ≡ followed a (space ∷ [])
+    → c ≡ followed b (decimal f) → r ≡ followed c (space ∷ []) → r ≡ text_of (kind_flags k f)
 unfolding kind_flags
 kind_flags_pieces k f p q u v w =
     let k1 : List ℕ = decimal k ++ (space ∷ []) in
@@ -50,7 +66,7 @@ kind_flags_pieces k f p q u v w =
     let b' = then (decimal k) (space ∷ []) a' u (omega (arith, decimal_length k)) in
     let c' = then k1 (decimal f) b' v (omega (arith, decimal_length f)) in
     let r' = then k2 (space ∷ []) c' w (omega arith) in
-    r' ∙ append_assoc k1 (decimal f) (space ∷ []) ∙ append_assoc (decimal k) (space ∷ []) (decimal f ++ (space ∷ []))
+    r' ∙ ap text_of (append_assoc k1 (decimal f) (space ∷ []) ∙ append_assoc (decimal k) (space ∷ []) (decimal f ++ (space ∷ [])))
 
 pub kind_flags_length : (k f : ℕ) → length (kind_flags k f) ≤ 42
 unfolding kind_flags
@@ -58,8 +74,8 @@ kind_flags_length k f =
     let rest : List ℕ = decimal f ++ (space ∷ []) in
     omega (arith, length-append (decimal k) ((space ∷ []) ++ rest), length-append (space ∷ []) rest, length-append (decimal f) (space ∷ []), decimal_length k, decimal_length f)
 
-pub open_pieces : (n : ℕ) {none a b r : List ℕ} → none ≡ [] → a ≡ followed none (111 ∷ 118 ∷ 101 ∷ 114 ∷ 32 ∷ [])
-    → b ≡ followed a (decimal n) → r ≡ followed b not_judged → r ≡ open_line n
+pub open_pieces : (n : ℕ) {none a b r : Text} → none ≡ text_of [] → a ≡ followed none (111 ∷ 118 ∷ 101 ∷ 114 ∷ 32 ∷ [])
+    → b ≡ followed a (decimal n) → r ≡ followed b not_judged → r ≡ text_of (open_line n)
 unfolding open_line
 open_pieces n p q u v =
     let front : List ℕ = 111 ∷ 118 ∷ 101 ∷ 114 ∷ 32 ∷ [] in
@@ -68,7 +84,7 @@ open_pieces n p q u v =
     let a' = then [] front p q (omega arith) in
     let b' = then front (decimal n) a' u (omega (arith, decimal_length n)) in
     let r' = then both not_judged b' v (omega arith) in
-    r' ∙ append_assoc front (decimal n) not_judged
+    r' ∙ ap text_of (append_assoc front (decimal n) not_judged)
 
 -- ---- Hexadecimal
 

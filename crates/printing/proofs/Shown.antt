@@ -10,8 +10,9 @@ use Rattle.meaning.specs.Jobs.{comes}
 use Rattle.meaning.specs.Refusals as book
 use Rattle.meaning.specs.Answers.{Answer, given, refused, over, after, Written, write_answer, area_answer}
 use Rattle.octets.specs.Parts.{part_of}
-use Rattle.lines.specs.Lines.{StartLaid}
-use Rattle.std.specs.Prelude.{Option, None, Ok, Err}
+use Rattle.lines.specs.Lines.{StartLaid, text_of, refusal_line}
+use Rattle.lines.specs.declared.Text.{Text}
+use Rattle.std.specs.Prelude.{Option, None, Some, Ok, Err}
 use Rattle.area.specs.declared.Refusal.{Refusal}
 use Rattle.writing.specs.declared.Written as written
 use Rattle.desk.specs.Answers.{Reading, Checking, Writing, reading_of, checking_of, writing_of}
@@ -25,7 +26,7 @@ use Rattle.printing.specs.Lent.{room_of, octets_after, entries_after, Answered}
 use Rattle.lines.proofs.Listing.{start_laid}
 use Rattle.octets.proofs.Overs.{over_none}
 use Rattle.printing.proofs.Lending.{read_fits}
-use Rattle.printing.proofs.Pieces.{start_as}
+use Rattle.printing.proofs.Pieces.{start_as, put_line}
 
 -- the octets at the start of what was laid
 laid_part : (s d : List ℕ) (n : ℕ) → n ≡ length s → part_of (over s d) 0 n ≡ s
@@ -167,6 +168,18 @@ module _ (pending l : List ℕ) {said : Option Refusal} (says : said ≡ start_s
       go : (x : book.Refusal) → start_refusal l ≡ x → StartLaid (start_shown pending x) o n out
       go book.none x = s
       go (book.refusal i j) x = absurd (let g = sym e ∙ says ∙ ap start_said x in let z : ◌≡◌ {A = ℕ} 0 1 = cc in omega arith)
+
+  pub start_refused : {r : Refusal} → said ≡ Some r → {o out : List ℕ} {n : ℕ} (t : Text)
+      → t ≡ text_of (refusal_line r.number r.second)
+      → StartLaid (part_of t.octets 0 t.len) o n out → StartLaid (start_shown pending (start_refusal l)) o n out
+  start_refused {r} e {o} {out} {n} t q s = go (start_refusal l) refl
+    where
+      go : (x : book.Refusal) → start_refusal l ≡ x → StartLaid (start_shown pending x) o n out
+      go book.none x = absurd (let g = sym e ∙ says ∙ ap start_said x in let z : ◌≡◌ {A = ℕ} 0 1 = cc in omega arith)
+      go (book.refusal i j) x =
+          let g : Some r ≡ Some (record { number = i; second = j }) = sym e ∙ says ∙ ap start_said x in
+          let same : r ≡ record { number = i; second = j } = cc in
+          put_line t (refusal_line i j) o out n (q ∙ ap (λ (y : Refusal). text_of (refusal_line y.number y.second)) same) s
 
 -- ---- The sheet as it is, read into the buffer that is printed
 

@@ -5,8 +5,8 @@
 
 ghost use Rattle.std.specs.Prelude.{◌≡◌, ◌+◌, ◌*◌, ◌≤◌, min, length, take};
 ghost use Rattle.meaning.specs.Jobs.{comes};
-ghost use Rattle.octets.specs.Parts.{laid_at};
-ghost use Rattle.lines.specs.Lines.{StartLaid};
+ghost use Rattle.octets.specs.Parts.{part_of, laid_at};
+ghost use Rattle.lines.specs.Lines.{StartLaid, text_of};
 ghost use Rattle.printing.specs.Printed.{refusal_told, hex_line, list_line, kind_flags, area_line, open_line, start_shown};
 ghost use Rattle.printing.specs.Printed.{read_shown, check_shown, write_shown, read_printed, check_printed, write_printed};
 ghost use Rattle.printing.specs.Printed.{is_job, area_octets};
@@ -66,7 +66,7 @@ fn put(s: &[u8], out: &mut [u8]) -> usize
 
 // The same of a text.
 fn put_text(text: &Text, out: &mut [u8]) -> usize
-    ensures { StartLaid text.now out.old result out.new }
+    ensures { StartLaid (part_of text.now.octets 0 text.now.len) out.old result out.new }
 {
     put(text.as_slice(), out)
 }
@@ -118,7 +118,7 @@ fn put_list(list: &[u32], count: usize, out: &mut [u8]) -> usize
 
 // Kind and flags in decimal, with a space behind each.
 fn kind_flags(kind: u8, flags: u8) -> Text
-    ensures { result ≡ kind_flags kind flags }
+    ensures { result ≡ text_of (kind_flags kind flags) }
 {
     Text::new()
         .with_decimal(kind as u64)
@@ -148,7 +148,7 @@ fn put_area(kind: u8, flags: u8, area: &[u8], out: &mut [u8]) -> usize
 
 // The line of a sheet that was not judged, since its kept octets do not decide.
 fn open_line(kept: usize) -> Text
-    ensures { result ≡ open_line kept }
+    ensures { result ≡ text_of (open_line kept) }
 {
     Text::new()
         .with(b"over ")
@@ -228,7 +228,8 @@ fn check_line(given: &[u8], all: usize, room: usize, list: &mut [u32], out: &mut
 
 // What is printed of a longer sheet: the line of the refusal that its kept octets decide, or what is said where they decide none.
 fn put_start(kept: &[u8], pending: &Text, out: &mut [u8]) -> usize
-    ensures { StartLaid (start_shown pending.now (start_refusal kept.now)) out.old result out.new }
+    ensures { StartLaid (start_shown (part_of pending.now.octets 0 pending.now.len) (start_refusal kept.now))
+        out.old result out.new }
 {
     match writing::judge_start(kept) {
         None => put_text(pending, out),

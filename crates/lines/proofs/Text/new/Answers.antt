@@ -1,7 +1,7 @@
--- Zeros, and nothing before them. Assumes nothing.
-use Rattle.std.proofs.Common.{arith}
+-- Zeros, and no octet of a text. Assumes nothing.
+use Rattle.std.proofs.Common.{refl}
 use Rattle.lines.proofs.Pieces.{text_none}
 use Rattle.lines.proofs.Text.new.Goals as goal
 
-pub invariant_of-result : goal.invariant_of-result
-invariant_of-result c = (omega arith, (omega arith, text_none))
+pub returns : goal.returns
+returns c = text_none refl refl
