@@ -151,9 +151,6 @@ module _ (f : ℕ → Candidate) (numbers d : List ℕ) (at : ℕ) where
           few = omega (arith, k.few, p.few);
         }
 
-    pub laying_all : length numbers ≤ i → LaysEntries (chosen (map f numbers)) d at written held
-    laying_all h = rw (take_all i numbers h) at k.lays
-
 -- a number of a list that a test finds low
 pub low_at : (bound : ℕ) (l : List ℕ) → T (all (λ n. ltb n bound) l) → (i : ℕ) → i < length l → get_or l i 0 < bound
 low_at bound [] t i h = absurd (not-suc-le-zero h)

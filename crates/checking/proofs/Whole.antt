@@ -62,10 +62,6 @@ pub refused_checked : (c : Context) (area : List ℕ) (refused : Refusal) (d : L
 unfolding check_answer area_order after
 refused_checked c area refused d e = record { says = rw e; holds = rw e }
 
--- as many entries as are needed have room
-pub few_fit : (needed : ℕ) (p d : List ℕ) → needed ≤ length d → length (take needed p) ≤ length d
-few_fit needed p d h = omega (arith, length-take needed p)
-
 -- Nothing of 1 to 3 applies.
 module _ (c : Context) (area : List ℕ) (fit : arrival_of c.kind c.flags (length area) ≡ Ok tt) where
   arrived : Arrived c.kind c.flags area

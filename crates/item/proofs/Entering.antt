@@ -39,14 +39,6 @@ whole_stands (a ∷ b ∷ x ∷ y ∷ r) h =
     let n : length (take k r) ≡ k = length-take-le k r (omega arith) in
     rw (e, n)
 
--- the octets of an item are few
-pub stored_low : (f c : ℕ) → c < 256 → stored_length current f c < 256
-stored_low f c h = go (eqb f 4)
-  where
-    go : (b : Bool) → cond b (packed_length c) c < 256
-    go true = omega arith
-    go false = omega arith
-
 module _ (l : List ℕ) (p : ℕ) where
   -- the head's octets, the octets it stores, and what it names
   abbrev form_at : ℕ

@@ -327,12 +327,6 @@ value_ends v j q r h e s =
 one_shifted : (k : ℕ) → k ≤ 8 → 1 * 2 ^ (4 * k) % 18446744073709551616 ≡ 16 ^ k
 one_shifted k h = shl_exact {a = 1} 1 (4 * k) 64 (omega arith) (omega arith) ∙ one-mul (2 ^ (4 * k)) ∙ powers 2 4 k
 
-pub one_left : (k : ℕ) → k ≤ 8 → 1 ≤ 1 * 2 ^ (4 * k) % 18446744073709551616
-one_left k h = omega (arith, one_shifted k h, power_some k)
-
-pub low_fits : (x k : ℕ) → k ≤ 8 → Fits w64 (x % 18446744073709551616 % 65536 + (1 * 2 ^ (4 * k) % 18446744073709551616 - 1))
-low_fits x k h = omega (arith, one_shifted k h, pow-le-pow_right {n = 16} (omega arith) {i = k} {j = 8} h)
-
 long_shifted : (a b k : ℕ) → a < 16 ^ 8 → k ≤ 8
     → a * 4294967296 % 18446744073709551616
     + (b * 2 ^ (4 * k) % 18446744073709551616 % 4294967296 + (1 * 2 ^ (4 * k) % 18446744073709551616 - 1))

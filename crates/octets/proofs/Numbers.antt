@@ -42,11 +42,6 @@ module _ (s : List ℕ) (i n : ℕ) (u : Summed s i n) where
         fits = rw (add-one i, pow-suc) (omega (arith, u.fits));
       }
 
-  pub summed_all : length s ≤ i → Numbered s n
-  summed_all h =
-      let e : i ≡ length s = omega (arith, u.within) in
-      record { is = u.is ∙ rw (e, take-length s); fits = rw e at u.fits }
-
 -- ---- Laying out
 
 -- the octets that the library gives, by this crate's word

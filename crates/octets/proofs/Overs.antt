@@ -103,13 +103,6 @@ overlaid_end s d out out' i w e = e ∙ ap (over s) w.is ∙ over_again s (take 
 
 -- ---- From a place on
 
-pub room_left : (at n room : ℕ) → at ≤ room → leb n (room - at) ≡ leb (at + n) room
-room_left at n room h = go (leb n (room - at)) refl
-  where
-    go : (b : Bool) → leb n (room - at) ≡ b → b ≡ leb (at + n) room
-    go true e = let k : n ≤ room - at = leb-true n (room - at) e in sym (le-leb (at + n) room (omega arith))
-    go false e = let k : room - at < n = leb-false n (room - at) e in sym (lt-leb (at + n) room (omega arith))
-
 -- what the test says
 pub fits_room : (at : ℕ) (s d : List ℕ) → fits_at at s d ≡ true → at + length s ≤ length d
 unfolding fits_at

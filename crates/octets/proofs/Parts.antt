@@ -56,10 +56,6 @@ part_placed l at n h = placed_part l at 0 n (omega arith) ∙ ap (λ (i : ℕ). 
 pub all_placed : (l : List ℕ) (n : ℕ) → length l ≡ n → placed l 0 0 n ≡ l
 all_placed l n e = part_placed l 0 n (omega arith) ∙ part_rest l 0 n (omega arith)
 
-pub part_four : (l : List ℕ) (at a b c d : ℕ) → at + 4 ≤ length l → a ≡ get_or l at 0 → b ≡ get_or l (at + 1) 0 → c ≡ get_or l (at + 2) 0
-    → d ≡ get_or l (at + 3) 0 → a ∷ b ∷ c ∷ d ∷ [] ≡ part_of l at 4
-part_four l at a b c d h p q r t = rw (p, q, r, t) (rw (add-zero at) at (part_placed l at 4 h))
-
 -- a slice holds octets, by what is known of its elements
 pub slice_octets : (l : List ℕ) → ((i : ℕ) → Fits w8 (get_or l i 0)) → Octets l
 slice_octets [] known = tt

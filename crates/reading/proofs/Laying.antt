@@ -182,10 +182,6 @@ module _ (area : List ℕ) (i : Item) where
               (begun_before (at + 2) (at + 4) (i.form ∷ i.count ∷ []) (stored_in area i) held first _ behind (omega arith) w.holds form_laid);
         }
 
-    -- the sum does not wrap
-    pub item_sum : 4 + size ≤ length held
-    item_sum = omega (arith, w.says, item_length)
-
 -- the names of a plain number, and of one of 3GPP
 pub plain_names : (n at : ℕ) (d : List ℕ) → n < 256 → at + 2 ≤ length d → set (set d at n) (at + 1) 0 ≡ laid_at at (names_of n) d
 unfolding names_of

@@ -40,21 +40,6 @@ one_digit v = ap (λ (t : Bool). t && all is_digit v) (one (length v))
 
 -- ---- A release
 
-pub release_length : (a b n : ℕ) (v : List ℕ) → (length v ≡ 3 + n → ⊥) → false ≡ release current a b n v
-release_length a b n v h = rw (ne_eqb (length v) (3 + n) h) (sym (and-false (same (take 3 v) (a ∷ b ∷ 45 ∷ []))))
-
-pub release_first : (a b n : ℕ) (v : List ℕ) → length v ≡ 3 + n → (get_or v 0 0 ≡ a → ⊥) → false ≡ release current a b n v
-release_first a b n [] l h = absurd (omega arith)
-release_first a b n (x ∷ v) l h = go v
-  where
-    go : (v : List ℕ) → false ≡ release current a b n (x ∷ v)
-    go v = rw (ne_eqb x a h)
-
-pub release_second : (a b n : ℕ) (v : List ℕ) → length v ≡ 3 + n → (get_or v 1 0 ≡ b → ⊥) → false ≡ release current a b n v
-release_second a b n [] l h = absurd (omega arith)
-release_second a b n (x ∷ []) l h = absurd (omega arith)
-release_second a b n (x ∷ y ∷ v) l h = simp (ne_eqb y b h, and-false)
-
 pub release_dash : (a b n : ℕ) (v : List ℕ) → length v ≡ 3 + n → (get_or v 2 0 ≡ 45 → ⊥) → false ≡ release current a b n v
 release_dash a b n [] l h = absurd (omega arith)
 release_dash a b n (x ∷ []) l h = absurd (omega arith)

@@ -54,12 +54,6 @@ module _ (l : List ℕ) (n s : ℕ) where
   unfolding part_of
   start_open k p f t e = sym (rw (ne_eqb n 24 (λ z. omega arith), eq-eqb n 22 e, sym (ap (λ (m : List ℕ). filled (judged m)) p), sym f, t))
 
-  pub start_cut : (n ≡ 24 → ⊥) → (n ≡ 22 → ⊥) → length l < 9 → start_said none ≡ start_said (start_by l (refusal n s))
-  start_cut a b h = sym (rw (ne_eqb n 24 a, ne_eqb n 22 b, lt-leb 9 (length l) h))
-
-  pub start_other : (n ≡ 24 → ⊥) → (n ≡ 22 → ⊥) → 9 ≤ length l → start_said (refusal n s) ≡ start_said (start_by l (refusal n s))
-  start_other a b h = sym (rw (ne_eqb n 24 a, ne_eqb n 22 b, le-leb 9 (length l) h))
-
 -- ---- Whole
 
 module _ (l : List ℕ) {r : Option declared.Refusal} (x : Refusal) (is : judged l ≡ x) where
