@@ -33,17 +33,25 @@ impl Status {
     }
 }
 
-// Answers what stands behind the first arguments, of which the closure is told how many: the program's name, and `--status` if it is the
-// first. Then the last act is to tell the status.
-pub fn told<F: FnOnce(usize) -> Status>(rt: HostRuntime, answer: F) -> Status
-    requires { F.IsAlwaysCallable answer }
-    ensures { F.post answer 1 result ⊎ F.post answer 2 result }
+// How many arguments stand before a program's own: its name, and `--status` if that is the first.
+pub fn before(rt: HostRuntime) -> usize
+    ensures { (result ≡ 1) ⊎ (result ≡ 2) }
 {
-    if !streams::is_word(rt, 1, b"--status") {
-        return answer(1);
+    if streams::is_word(rt, 1, b"--status") {
+        2
+    } else {
+        1
     }
-    let status = answer(2);
-    streams::tell(status.digit());
+}
+
+// The last act: tells the status, if `--status` is the first argument. It takes the status and no closure that gives it: one may be called
+// only where its caller says so, and no public function here asks anything of its caller.
+pub fn told(rt: HostRuntime, status: Status) -> Status
+    ensures { result ≡ status }
+{
+    if before(rt) == 2 {
+        streams::tell(status.digit());
+    }
     status
 }
 
@@ -145,5 +153,5 @@ fn answer_arguments<J: Job>(rt: HostRuntime, passed: usize, room: &mut [u8]) -> 
 pub fn run<J: Job>(rt: HostRuntime, room: &mut [u8]) -> Status
     ensures { IsTold J.tells (length room.old) result }
 {
-    told(rt, |passed| answer_arguments::<J>(rt, passed, room))
+    told(rt, answer_arguments::<J>(rt, before(rt), room))
 }

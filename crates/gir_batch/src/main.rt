@@ -340,5 +340,5 @@ fn answer_arguments(rt: HostRuntime, passed: usize) -> Status {
 }
 
 fn main(rt: HostRuntime) {
-    answering::told(rt, |passed| answer_arguments(rt, passed));
+    answering::told(rt, answer_arguments(rt, answering::before(rt)));
 }

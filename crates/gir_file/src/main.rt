@@ -90,6 +90,12 @@ impl<const N: usize> Held<N> {
         }
     }
 
+    // Puts as many of the octets behind those that are held as there is room for.
+    fn put_first(&mut self, s: &[u8]) {
+        let room = N - self.len;
+        self.put(&s[..s.len().min(room)]);
+    }
+
     // Reads once, over what was held; at the end nothing is held.
     fn read_once<R: Read>(&mut self, from: &mut R) -> io::Result<()> {
         let n = from.read(&mut self.room)?;
@@ -626,31 +632,35 @@ struct Input {
 }
 
 impl Input {
-    // The next octet, if there is one.
-    fn octet(&mut self) -> io::Result<Option<u8>> {
+    // Reads ahead, where all that was read is used.
+    fn read_ahead(&mut self) -> io::Result<()> {
         if self.ahead.as_slice().len() <= self.used {
             self.ahead.read_once(&mut self.rt.stdin())?;
             self.used = 0;
         }
-        let Some(x) = self.ahead.as_slice().get(self.used) else {
-            return Ok(None);
-        };
-        let value = *x;
-        self.used += 1;
-        Ok(Some(value))
+        Ok(())
     }
 
     // The next octets up to the octet that ends them, and without it. Of those that are more than there is room, and so no names, the
-    // first are kept.
+    // first are kept. What was read is taken as a whole: octet by octet a list of long lines takes twice the time.
     fn next<const N: usize>(&mut self, end: u8, line: &mut Held<N>) -> Result<(), Over> {
         line.clear();
         for _ in 0..u64::MAX {
-            match self.octet()? {
-                Some(x) if x == end => return Ok(()),
-                Some(x) => line.put(&[x]),
-                None if line.as_slice().is_empty() => return Err(Over::End),
-                None => return Err(cut(end)),
+            self.read_ahead()?;
+            let Some(unused @ [_, ..]) = self.ahead.as_slice().get(self.used..) else {
+                return Err(if line.as_slice().is_empty() {
+                    Over::End
+                } else {
+                    cut(end)
+                });
+            };
+            if let Some(n) = unused.iter().position(|x| *x == end) {
+                line.put_first(&unused[..n]);
+                self.used += n + 1;
+                return Ok(());
             }
+            line.put_first(unused);
+            self.used += unused.len();
         }
         Err(Over::Unread(Error::from(ErrorKind::FileTooLarge)))
     }

@@ -87,7 +87,7 @@ module _ (l : List ℕ) (left place : ℕ) (firsts : Firsts) (k : Looking l left
         go false e = never 23 (no_entry l place o r says h q e)
 
     -- with the item
-    found_more : (m : ℕ) (found : Option ℕ) → Found m l left place found → Found m l (left - 1) h.next (first_with m h.number place found)
+    pub found_more : (m : ℕ) (found : Option ℕ) → Found m l left place found → Found m l (left - 1) h.next (first_with m h.number place found)
     unfolding attributes first_place
     found_more m found f = f ∙ rw stepped.onward (grind arith)
 
@@ -113,7 +113,7 @@ module _ (l : List ℕ) (place : ℕ) where
       go [] = refl
       go (x ∷ d) = refl
 
-  found_all : (n : ℕ) (found : Option ℕ) → Found n l 0 place found → found ≡ place_in n l
+  pub found_all : (n : ℕ) (found : Option ℕ) → Found n l 0 place found → found ≡ place_in n l
   found_all n None f = sym (f ∙ nothing_left n)
   found_all n (Some p) f = sym f
 

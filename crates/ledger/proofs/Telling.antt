@@ -112,12 +112,12 @@ session_stores =
 
 module _ (l : List ℕ) (o : Octets l) where
   -- What stands at the place of the first item of a counter's number is the sheet's reading,
-  reading_told : (c : Counter) → read_at 2 4 l (place_in (counter_number c) l) ≡ number_by (reading_in (counter_number c) l)
+  pub reading_told : (c : Counter) → read_at 2 4 l (place_in (counter_number c) l) ≡ number_by (reading_in (counter_number c) l)
   unfolding reading_in items_in
   reading_told c = items_told (counter_number c) 2 4 number_of (counter_stores c) l o _ 9
 
   -- and at that of the first 44 its session id.
-  session_told : read_at 5 8 l (place_in 44 l) ≡ number_by (session_in l)
+  pub session_told : read_at 5 8 l (place_in 44 l) ≡ number_by (session_in l)
   unfolding session_in items_in
   session_told = items_told 44 5 8 _ session_stores l o _ 9
 

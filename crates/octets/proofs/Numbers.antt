@@ -6,12 +6,11 @@ use native.Mathlib.Nat.{pow-suc, pow-le-pow_right, div-one}
 use native.Mathlib.Numerals.{add-one}
 use native.Mathlib.Omega.{arith}
 use lib.ListN.{length, take, get_or}
-use lib.Seq.{take-suc, take-length}
+use lib.Seq.{take-suc}
 use Rattle.std.specs.Int.{w32, bytes_high_first, from_be_bytes}
 use Rattle.std.proofs.lemmas.Nat.{be_bytes_4}
 use Rattle.meaning.specs.Octets.{number_of, octets_of}
 use Rattle.meaning.proofs.Numbers.{number_snoc, number_back}
-use Rattle.octets.specs.Parts.{Numbered}
 
 -- ---- Reading
 

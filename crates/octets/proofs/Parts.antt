@@ -72,10 +72,6 @@ part_narrows l p at w r e h =
     let q : 256 ^ length p ≤ 256 ^ w = pow-le-pow_right {n = 256} (omega arith) (omega (arith, ap length e, part_at_most l at w)) in
     omega arith
 
--- the first n octets of a part of at most n are the part
-pub part_front : (l p all : List ℕ) (at n : ℕ) → p ≡ part_of l at n → all ≡ take n p → all ≡ part_of l at n
-part_front l p all at n e q = q ∙ take_all n p (omega (arith, ap length e, part_at_most l at n)) ∙ e
-
 -- each place of a part of octets holds an octet
 pub part_octet : (l : List ℕ) → ((i : ℕ) → Fits w8 (get_or l i 0)) → (at n i : ℕ) → get_or (part_of l at n) i 0 < 256
 part_octet l known at n i = octet (part_of l at n) (part_octets l at n (slice_octets l known)) i

@@ -82,14 +82,14 @@ pub fn u16_at(s: &[u8], at: usize) -> u16
 
 // The 32-bit number at a place. It has a way of its own where the four octets are there: by the loop over every width, as `u16_at` and
 // `u64_at` have it, a message is read in 299 ns in place of 288, and 2,038 attributes of two octets in 18.4 microseconds in place of 15.2.
+// That they are there is tested by the length: as a chunk of a `part` 339 attributes of 3GPP are read with 6 % more instructions.
 pub fn u32_at(s: &[u8], at: usize) -> u32
     ensures { result ≡ number_of (part_of s.now at 4) }
 {
-    let found = part(s, at, 4);
-    match found.first_chunk::<4>() {
-        Some(four) => u32::from_be_bytes(*four),
-        None => number(found) as u32,
+    if 4 <= s.len() && at <= s.len() - 4 {
+        return u32::from_be_bytes(array_at::<4>(s, at));
     }
+    number(part(s, at, 4)) as u32
 }
 
 // The 64-bit number at a place.
@@ -169,8 +169,10 @@ fn copy_by<const N: usize>(buf: &mut [u8], src: &[u8])
     lay_at(buf, last, &array_at::<N>(src, last));
 }
 
-// Copies `src`, of few octets, over the start of `buf`.
-fn copy_few(buf: &mut [u8], src: &[u8])
+// Copies `src` over the start of `buf`, by the largest of these widths that it has. Each goes through an array, so that the compiler knows
+// that source and target are apart: of the library's own `copy_from_slice` between two lent slices it makes a call of `memmove`, which no
+// caller in C had to have.
+fn copy(buf: &mut [u8], src: &[u8])
     requires { length src.now ≤ length buf.old }
     ensures { buf.new ≡ over src.now buf.old }
 {
@@ -178,32 +180,37 @@ fn copy_few(buf: &mut [u8], src: &[u8])
         0 => {}
         1..=3 => copy_by::<1>(buf, src),
         4..=7 => copy_by::<4>(buf, src),
-        _ => copy_by::<8>(buf, src),
+        8..=15 => copy_by::<8>(buf, src),
+        16..=63 => copy_by::<16>(buf, src),
+        _ => copy_by::<64>(buf, src),
     }
 }
 
-// The same as `copy_at`, where `src` may be long: a public function of docs/PROMISES.md, which had blocks of its own before the library
-// copied long slices as fast.
+// The same as `copy_at`, where `src` may be long. Inlined, as the next: by calls 61 values of 64 octets are written with 14 % more
+// instructions.
+#[inline]
 pub fn copy_long(buf: &mut [u8], at: usize, src: &[u8]) -> bool
     ensures { Laid at src.now buf.old result buf.new }
 {
-    copy_at(buf, at, src)
+    if !fits(buf.len(), at, src.len()) {
+        return false;
+    }
+    copy(&mut buf[at..], src);
+    true
 }
 
 // Copies the first sixteen octets of `src`, or as many as it has, over `buf` from the place `at` on and says true, if they fit; else
-// changes nothing and says false. Sixteen go at once, and fewer by eights or fours: by `copy_at` alone the benchmark's 2,038 attributes
-// of two octets were read at 0.9 of the hand-written speed in place of 1.1.
+// changes nothing and says false. Sixteen go at once, through an array. By a call, 2,038 attributes of two octets are read with 20 % more
+// instructions, and written with 18 % more.
+#[inline]
 pub fn copy_sixteen(buf: &mut [u8], at: usize, src: &[u8]) -> bool
     ensures { Laid at (part_of src.now 0 16) buf.old result buf.new }
 {
     let Some(sixteen) = src.first_chunk::<16>() else {
-        if !fits(buf.len(), at, src.len()) {
-            return false;
-        }
-        copy_few(&mut buf[at..], src);
-        return true;
+        return copy_long(buf, at, src);
     };
-    copy_at(buf, at, sixteen)
+    let sixteen = *sixteen;
+    copy_at(buf, at, &sixteen)
 }
 
 // Whether `x` is a decimal digit.
@@ -266,11 +273,30 @@ pub fn all_digits(s: &[u8]) -> bool
     eights_are_digits(eights) && eight_digits(last)
 }
 
-// Whether every octet of `s` is a hexadecimal digit. All are tested, so that many can be tested at once.
+// Whether sixteen octets are hexadecimal digits. All are tested, so that they can be tested at once.
+fn hex_sixteen(sixteen: &[u8; 16]) -> bool
+    ensures { result ≡ all is_hex sixteen.now }
+{
+    sixteen.iter().fold(true, |ok, x| ok & is_hex(*x))
+}
+
+// Whether all of many sixteens of octets are hexadecimal digits.
+fn sixteens_are_hex(sixteens: &[[u8; 16]]) -> bool
+    ensures { result ≡ list_all (all is_hex) sixteens.now }
+{
+    sixteens.iter().all(|sixteen| hex_sixteen(sixteen))
+}
+
+// Whether every octet of `s` is a hexadecimal digit, by sixteens, the last of which may hold some that are tested already: so that it ends
+// behind the first sixteen that are not.
 pub fn all_hex(s: &[u8]) -> bool
     ensures { result ≡ all is_hex s.now }
 {
-    s.iter().fold(true, |ok, x| ok & is_hex(*x))
+    let Some(last) = s.last_chunk::<16>() else {
+        return s.iter().fold(true, |ok, x| ok & is_hex(*x));
+    };
+    let (sixteens, _) = s.as_chunks::<16>();
+    sixteens_are_hex(sixteens) && hex_sixteen(last)
 }
 
 // The octets that `n` halves are packed in: "half the count, rounded up".

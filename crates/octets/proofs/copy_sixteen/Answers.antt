@@ -1,20 +1,14 @@
 -- Fewer than sixteen octets are copied as they are, else the first sixteen. Assumes nothing.
-use mathlib.Core.Path.{◌≡◌, refl}
+use mathlib.Core.Path.{◌≡◌}
 use native.Mathlib.Omega.{arith}
 use Rattle.octets.specs.Parts.{part_of}
 use Rattle.octets.proofs.Parts.{part_rest}
-use Rattle.octets.proofs.Overs.{laid_not, laid_part}
 use Rattle.octets.proofs.copy_sixteen.Goals as goal
-
-pub returns-then-not-fits : goal.returns-then-not-fits
-returns-then-not-fits c =
-    let all : part_of c.args.src.now 0 16 ≡ c.args.src.now = part_rest c.args.src.now 0 16 (omega (arith, c.in_default.ensures.cases)) in
-    rw all (laid_not _ _ _ _ _ refl c.fits.ensures c.if-not-fits.true)
 
 pub returns-in_default : goal.returns-in_default
 returns-in_default c =
     let all : part_of c.args.src.now 0 16 ≡ c.args.src.now = part_rest c.args.src.now 0 16 (omega (arith, c.in_default.ensures.cases)) in
-    rw all (laid_part _ _ _ _ _ refl c.fits.ensures _ c.if-not-fits.false c.copy_few.ensures)
+    rw all c.copy_long.ensures
 
 pub returns : goal.returns
 unfolding part_of
