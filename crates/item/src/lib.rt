@@ -14,8 +14,8 @@ use area::Refusal;
 
 // What the head of an item says: the number that it carries, 0 to 255 for a plain one and 256 more than the sub-attribute's for a 3GPP
 // one, its form and count, the octets that stand there, of which any may, and the place behind the octets it stores. The place stands
-// between number and form: where these two are neighbours the compiler packs both into one, and a message is written with 14 % more
-// instructions.
+// between number and form: where number, form and count are neighbours the compiler packs the three into one, and a message is
+// written with 14 % more instructions.
 #[derive(Clone, Copy)]
 pub struct Head {
     pub number: u16,
