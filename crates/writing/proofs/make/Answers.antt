@@ -14,7 +14,7 @@ returns-in_err-length c =
     rw (p.1, p.2) (items_refused _ _ refl c.requires.0 _ _ c.transcribe.ensures _ c.in_err-length.was)
 
 pub returns-then-length-gt-LONGEST : goal.returns-then-length-gt-LONGEST
-returns-then-length-gt-LONGEST c = area_long _ _ refl c.requires.0 _ _ c.transcribe.ensures _ c.in_ok-length.was c.if-length-gt-LONGEST.true
+returns-then-length-gt-LONGEST c = area_long _ _ refl c.requires.0 _ _ c.transcribe.ensures _ c.in_ok-length.was (omega (arith, c.if-length-gt-LONGEST.true))
 
 pub bounds-sheet-5 : goal.bounds-sheet-5
 bounds-sheet-5 c = omega (arith, front_nine _ _ refl c.requires.0)
@@ -23,4 +23,4 @@ pub bounds-sheet-6 : goal.bounds-sheet-6
 bounds-sheet-6 c = omega (arith, front_nine _ _ refl c.requires.0)
 
 pub returns : goal.returns
-returns c = area_made _ _ refl c.requires.0 _ _ c.transcribe.ensures _ c.in_ok-length.was c.if-length-gt-LONGEST.false
+returns c = area_made _ _ refl c.requires.0 _ _ c.transcribe.ensures _ c.in_ok-length.was (omega (arith, c.if-length-gt-LONGEST.false))
