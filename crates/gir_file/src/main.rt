@@ -642,7 +642,7 @@ impl Input {
     }
 
     // The next octets up to the octet that ends them, and without it. Of those that are more than there is room, and so no names, the
-    // first are kept. What was read is taken as a whole: octet by octet a list of long lines takes twice the time.
+    // first are kept. What was read is taken as a whole: octet by octet a list of long lines takes more than twice the time.
     fn next<const N: usize>(&mut self, end: u8, line: &mut Held<N>) -> Result<(), Over> {
         line.clear();
         for _ in 0..u64::MAX {

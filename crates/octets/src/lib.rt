@@ -288,7 +288,8 @@ fn sixteens_are_hex(sixteens: &[[u8; 16]]) -> bool
 }
 
 // Whether every octet of `s` is a hexadecimal digit, by sixteens, the last of which may hold some that are tested already: so that it ends
-// behind the first sixteen that are not.
+// behind the first sixteen that are not. The shape of `all_digits`, at another width and by another test: one over both would be handed
+// the test as a closure, with what it promises of each part, and be no plainer. The law is one (`chunks_last`).
 pub fn all_hex(s: &[u8]) -> bool
     ensures { result ≡ all is_hex s.now }
 {
